@@ -1,0 +1,33 @@
+use Rattle.std.proofs.Common.{◌≡◌, ◌∙◌, sym, ◌^◌}
+use Rattle.np_host_end.specs.declared.host_end.State.TheVariants.{Refused, Finished}
+use Rattle.np_host_end.specs.HostEnd.{total_of}
+use Rattle.np_host.proofs.Exchanges.{going-ran, ending-refused, TurnSent, turned-done, turned-unsent, turned-failed, listening, turned-full, turned-heard}
+use Rattle.np_host.proofs.turn.turn.Goals as goal
+
+pub returns-in-Refused-clause-turned : goal.returns-in-Refused-clause-turned
+returns-in-Refused-clause-turned g c = λ page old now first sink k o going.
+    let r = going-ran page old now first sink _ _ c.args.end.now c.run_and_print.new.end c.in_ok-state.state o c.in_ok-state.ensures.ran going in
+    (now, r.sink, k, r.taken_is, ending-refused page old first now r.sink c.run_and_print.new.end c.in_ok-state.state c.in-Refused.refusal c.in-Refused.is r.going r.quiet r.rests)
+
+pub returns-then-sent-clause-turned : goal.returns-then-sent-clause-turned
+returns-then-sent-clause-turned g c =
+    turned-done _ _ _ _ c.args.end.now c.send_messages.new.end c.in_ok-state.state c.in_ok-sent.sent (record { between = c.run_and_print.new.end; ran = c.in_ok-state.ensures.ran; sends = c.in_ok-sent.ensures.sent }) c.in-Finished.is c.if-sent.true
+
+pub returns-else-sent-clause-turned : goal.returns-else-sent-clause-turned
+returns-else-sent-clause-turned g c =
+    turned-unsent _ _ _ _ c.args.end.now c.send_messages.new.end c.in_ok-state.state c.in_ok-sent.sent (record { between = c.run_and_print.new.end; ran = c.in_ok-state.ensures.ran; sends = c.in_ok-sent.ensures.sent }) c.in-Finished.is c.if-sent.false
+
+pub returns-then-not-sent-clause-turned : goal.returns-then-not-sent-clause-turned
+returns-then-not-sent-clause-turned g c =
+    turned-failed _ _ _ _ c.args.end.now c.send_messages.new.end c.in_ok-state.state c.in_ok-sent.sent (record { between = c.run_and_print.new.end; ran = c.in_ok-state.ensures.ran; sends = c.in_ok-sent.ensures.sent }) c.in_default.not-Refused c.in_default-state.not-Finished c.if-not-sent.true
+
+pub returns-then-total-eq-BYTE_LIMIT-clause-turned : goal.returns-then-total-eq-BYTE_LIMIT-clause-turned
+returns-then-total-eq-BYTE_LIMIT-clause-turned g c = λ page old now first sink k o going.
+    let full : total_of c.send_messages.new.end ≡ 2 ^ 40 = c.in_ok-sent.ensures.total ∙ c.in_ok-state.ensures.total ∙ c.requires.total ∙ c.if-total-eq-BYTE_LIMIT.true in
+    turned-full _ _ c.send_messages.new.end page old first full
+    (listening _ _ _ _ c.args.end.now c.send_messages.new.end c.in_ok-state.state c.in_ok-sent.sent (record { between = c.run_and_print.new.end; ran = c.in_ok-state.ensures.ran; sends = c.in_ok-sent.ensures.sent }) c.in_default.not-Refused c.in_default-state.not-Finished c.if-not-sent.false page old now first sink k o going)
+
+pub returns-clause-turned : goal.returns-clause-turned
+returns-clause-turned g c = λ page old now first sink k o going.
+    turned-heard _ _ _ c.send_messages.new.end c.hear.new.end c.in_ok-ending.ending c.in_ok-ending.ensures.heard page old first
+    (listening _ _ _ _ c.args.end.now c.send_messages.new.end c.in_ok-state.state c.in_ok-sent.sent (record { between = c.run_and_print.new.end; ran = c.in_ok-state.ensures.ran; sends = c.in_ok-sent.ensures.sent }) c.in_default.not-Refused c.in_default-state.not-Finished c.if-not-sent.false page old now first sink k o going)

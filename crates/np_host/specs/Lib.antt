@@ -1,0 +1,9 @@
+pub mod Words
+pub use Rattle.np_prefix.specs.Alone
+pub mod Session
+pub mod Causes
+pub mod Flow
+pub mod Live
+pub mod Closing
+pub mod Host
+pub mod Main

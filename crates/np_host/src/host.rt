@@ -1,0 +1,144 @@
+//! The entry point of the host, over any environment.
+
+ghost use Rattle.std.specs.Prelude.{◌≡◌, ◌<◌, ◌⊎◌, ◌↔◌, ◌≢◌, length, map, string_bytes, IfOk, OnOk, Some, None, true};
+ghost use Rattle.np_model.specs.Script.{page_of};
+ghost use Rattle.np_ports.specs.Causes.{Rose};
+ghost use Rattle.np_host.specs.Words.{run_words as run_of_words, texts};
+ghost use Rattle.np_host.specs.Host.{RunsPage, StopsEarly, NotStarted, IsNoPage, OnlyNoPage, KeepsFiles, NotesPageOnly, RunsWords, NotStartedWords, IsNoScript, OnlyNoScript, NotesScriptOnly, IsCutShort};
+ghost use Rattle.np_host.specs.Causes.{SinkCause};
+ghost use Rattle.np_host.specs.Main.{FollowsWords, HostDone, HostLost, HostBroken, HostRefused};
+
+use crate::lines::finish;
+use crate::session::session;
+use crate::stop::Stop;
+use crate::words::run_words;
+use np_ports::{Files, Peer, PortError, Sink};
+use np_prefix::{ends_law, few_bytes_law, never_refuses_law, waits_law};
+use np_script::{ParseError, parse_page};
+use np_transfer::read_script;
+use std::alloc::Global;
+
+/// The page of the named file runs over the program, whose words these are.
+fn run<P: Peer, F: Files, O: Sink>(
+    alloc: Global,
+    name: &str,
+    program: &[String],
+    peer: &mut P,
+    files: &mut F,
+    out: &mut O,
+) -> Result<u8, Stop>
+    requires program { 0 < length program.now }
+    ensures runs { IfOk result (λ status. RunsPage name.now (texts program.now) (F.contents files.old) (P.known peer.old) (P.known peer.new) (O.taken out.old) (O.taken out.new) status) }
+    ensures early { IfOk result (λ status. StopsEarly (P.known peer.old) (P.known peer.new) (O.taken out.old) (O.taken out.new) status) }
+    ensures not_started { IfOk result (λ status. NotStarted (texts program.now) (P.known peer.old) (P.known peer.new) (O.taken out.old) (O.taken out.new) status) }
+    ensures script { IfOk result (λ status. status ≡ 3 → IsNoPage name.now (F.contents files.old)) }
+    ensures script_only { IfOk result (λ status. OnlyNoPage name.now (F.contents files.old) status) }
+    ensures usage { IfOk result (λ status. status ≢ 2) }
+    ensures output { IfOk result (λ status. status ≢ 10) }
+    ensures file { IfOk result (λ status. status ≡ 4 → Rose (F.faults files.old) (F.faults files.new)) }
+    ensures start { IfOk result (λ status. status ≡ 11 → Rose (P.start_faults peer.old) (P.start_faults peer.new)) }
+    ensures pipe { IfOk result (λ status. status ≡ 6 → Rose (P.pipe_faults peer.old) (P.pipe_faults peer.new)) }
+    ensures ended { IfOk result (λ status. status ≡ 5 → P.has_ended peer.new ≡ true) }
+    ensures sink { SinkCause (O.faults out.old) (O.faults out.new) result }
+    ensures files { KeepsFiles (F.contents files.old) (F.contents files.new) }
+    ensures failed_calls { NotesPageOnly name.now (F.failed_calls files.old) (F.failed_calls files.new) }
+{
+    let bytes = match read_script(alloc, files, name) {
+        Ok(bytes) => bytes,
+        Err(PortError::Failed) => return finish(alloc, out, 4),
+        Err(PortError::NoMemory) => return Err(Stop::NoMemory),
+    };
+    let page = match parse_page(alloc, &bytes) {
+        Ok(page) => page,
+        Err(ParseError::Script) => return finish(alloc, out, 3),
+        Err(ParseError::NoMemory) => return Err(Stop::NoMemory),
+    };
+    match peer.start(program) {
+        Ok(()) => {}
+        Err(PortError::Failed) => return finish(alloc, out, 11),
+        Err(PortError::NoMemory) => return Err(Stop::NoMemory),
+    }
+    let status = session(alloc, page, peer, out)?;
+    Ok(status)
+}
+
+fn serve<P: Peer, F: Files, O: Sink>(
+    alloc: Global,
+    words: &[String],
+    peer: &mut P,
+    files: &mut F,
+    out: &mut O,
+) -> Result<u8, Stop>
+    ensures runs { IfOk result (λ status. RunsWords (texts words.now) (F.contents files.old) (P.known peer.old) (P.known peer.new) (O.taken out.old) (O.taken out.new) status) }
+    ensures early { IfOk result (λ status. StopsEarly (P.known peer.old) (P.known peer.new) (O.taken out.old) (O.taken out.new) status) }
+    ensures not_started { IfOk result (λ status. NotStartedWords (texts words.now) (P.known peer.old) (P.known peer.new) (O.taken out.old) (O.taken out.new) status) }
+    ensures script { IfOk result (λ status. status ≡ 3 → IsNoScript (texts words.now) (F.contents files.old)) }
+    ensures script_only { IfOk result (λ status. OnlyNoScript (texts words.now) (F.contents files.old) status) }
+    ensures output { IfOk result (λ status. status ≢ 10) }
+    ensures usage { IfOk result (λ status. (status ≡ 2) ↔ (run_of_words (texts words.now) ≡ None)) }
+    ensures file { IfOk result (λ status. status ≡ 4 → Rose (F.faults files.old) (F.faults files.new)) }
+    ensures start { IfOk result (λ status. status ≡ 11 → Rose (P.start_faults peer.old) (P.start_faults peer.new)) }
+    ensures pipe { IfOk result (λ status. status ≡ 6 → Rose (P.pipe_faults peer.old) (P.pipe_faults peer.new)) }
+    ensures ended { IfOk result (λ status. status ≡ 5 → P.has_ended peer.new ≡ true) }
+    ensures sink { SinkCause (O.faults out.old) (O.faults out.new) result }
+    ensures files { KeepsFiles (F.contents files.old) (F.contents files.new) }
+    ensures failed_calls { NotesScriptOnly (texts words.now) (F.failed_calls files.old) (F.failed_calls files.new) }
+{
+    let plain = match run_words(alloc, words)? {
+        Some(plain) => plain,
+        None => return finish(alloc, out, 2),
+    };
+    let status = run(alloc, plain[0].as_str(), &plain[1..], peer, files, out)?;
+    Ok(status)
+}
+
+/// Runs the host on the words of its command line, and answers its status.
+///
+/// `words` are those behind the program's name. Only `run PAGE PROGRAM ARG*` is served: the page of the
+/// file PAGE runs over PROGRAM, which is started with the ARGs. This project's own.
+pub fn host_main<P: Peer, F: Files, O: Sink>(
+    alloc: Global,
+    words: &[String],
+    peer: &mut P,
+    files: &mut F,
+    out: &mut O,
+) -> u8
+    // What a run did, where its environment tells: status 0, 5, 6 or 7.
+    ensures runs { RunsWords (texts words.now) (F.contents files.old) (P.known peer.old) (P.known peer.new) (O.taken out.old) (O.taken out.new) result }
+
+    // The main theorem: for each plug-in whose wire text the given bytes begin, the run of page and
+    // plug-in in one process that only the whole messages of these bytes reach.
+    ensures follows_done { result ≡ 0 → FollowsWords HostDone (texts words.now) (F.contents files.old) (P.known peer.old) (P.known peer.new) (O.taken out.old) (O.taken out.new) }
+    ensures follows_lost { result ≡ 5 → FollowsWords HostLost (texts words.now) (F.contents files.old) (P.known peer.old) (P.known peer.new) (O.taken out.old) (O.taken out.new) }
+    ensures follows_broken { result ≡ 6 → FollowsWords HostBroken (texts words.now) (F.contents files.old) (P.known peer.old) (P.known peer.new) (O.taken out.old) (O.taken out.new) }
+    ensures never_refused { result ≡ 7 → FollowsWords HostRefused (texts words.now) (F.contents files.old) (P.known peer.old) (P.known peer.new) (O.taken out.old) (O.taken out.new) }
+
+    // What comes before a page runs.
+    ensures early { StopsEarly (P.known peer.old) (P.known peer.new) (O.taken out.old) (O.taken out.new) result }
+    ensures not_started { NotStartedWords (texts words.now) (P.known peer.old) (P.known peer.new) (O.taken out.old) (O.taken out.new) result }
+
+    // The cause of each status.
+    ensures usage { result ≡ 2 → run_of_words (texts words.now) ≡ None }
+    ensures usage_only { run_of_words (texts words.now) ≡ None → (result ≡ 2) ⊎ IsCutShort result }
+    ensures script { result ≡ 3 → IsNoScript (texts words.now) (F.contents files.old) }
+    ensures script_only { IsCutShort result ⊎ OnlyNoScript (texts words.now) (F.contents files.old) result }
+    ensures file { result ≡ 4 → Rose (F.faults files.old) (F.faults files.new) }
+    ensures start { result ≡ 11 → Rose (P.start_faults peer.old) (P.start_faults peer.new) }
+    ensures ended { result ≡ 5 → P.has_ended peer.new ≡ true }
+    ensures pipe { result ≡ 6 → Rose (P.pipe_faults peer.old) (P.pipe_faults peer.new) }
+    ensures output { result ≡ 10 → Rose (O.faults out.old) (O.faults out.new) }
+
+    // What stays, at every status.
+    ensures files { KeepsFiles (F.contents files.old) (F.contents files.new) }
+    ensures failed_calls { NotesScriptOnly (texts words.now) (F.failed_calls files.old) (F.failed_calls files.new) }
+{
+    waits_law();
+    ends_law();
+    never_refuses_law();
+    few_bytes_law();
+    match serve(alloc, words, peer, files, out) {
+        Ok(status) => status,
+        Err(Stop::OutputFailed) => 10,
+        Err(Stop::NoMemory) => 8,
+    }
+}

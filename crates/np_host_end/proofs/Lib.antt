@@ -1,0 +1,7 @@
+pub mod CommandsLeft
+pub mod CoreRuns
+pub mod LostEnds
+pub mod Measures
+pub mod PageTurns
+pub mod StepLemmas
+pub mod Stands

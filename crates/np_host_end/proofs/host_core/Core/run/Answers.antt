@@ -1,0 +1,36 @@
+use Rattle.std.proofs.Common.{◌≡◌, ℕ, ◌+◌, length, Option, Some, None, ap, subst, sym, ◌∙◌}
+use Rattle.np_wire.specs.Feed.{Fed}
+use Rattle.np_host_end.specs.Core.{Listened, control_of}
+use Rattle.np_host_end.specs.declared.host_end.State.{State}
+use Rattle.np_host_end.proofs.CoreRuns.{acting-at, acted-keeps, listened-keeps, listened-lighter, halted}
+use Rattle.np_host_end.proofs.Measures.{act-lighter}
+use Rattle.np_host_end.proofs.CoreRuns.{keeps-then}
+use Rattle.np_host_end.proofs.host_core.Core.run.Goals as goal
+
+pub loop-self-preserved : goal.loop-self-preserved
+loop-self-preserved c =
+    record {
+      keeps = keeps-then _ _ _ c.loop-self.invariant.keeps (acted-keeps c.loop-self.self c.act.new.self (acting-at _ c.in-Begin.is) c.in_ok-act-in-Begin.ensures.moves c.in_ok-act-in-Begin.ensures.feed);
+      total = ap (λ (f : Fed). f.consumed + length f.left) c.in_ok-act-in-Begin.ensures.feed ∙ c.loop-self.invariant.total;
+    }
+
+pub loop-self-smaller : goal.loop-self-smaller
+loop-self-smaller c = act-lighter c.loop-self.self.page (control_of c.loop-self.self) (control_of c.act.new.self) _ _ (acting-at _ c.in-Begin.is) c.in_ok-act-in-Begin.ensures.moves.control (ap (λ (f : Fed). f.left) c.in_ok-act-in-Begin.ensures.feed)
+
+pub loop-self-preserved-in_default : goal.loop-self-preserved-in_default
+loop-self-preserved-in_default c =
+    let l = subst (λ (o : Option State). Listened c.loop-self.self c.listen.new.self o) c.in_default.is c.in_ok-state-in-Awaiting.ensures.listened in
+    record {
+      keeps = keeps-then _ _ _ c.loop-self.invariant.keeps (listened-keeps c.more_messages_law.ensures.law c.loop-self.self c.listen.new.self c.in-Awaiting.call c.in-Awaiting.is l);
+      total = c.in_ok-state-in-Awaiting.ensures.total ∙ c.loop-self.invariant.total;
+    }
+
+pub loop-self-smaller-in_default : goal.loop-self-smaller-in_default
+loop-self-smaller-in_default c =
+    let l = subst (λ (o : Option State). Listened c.loop-self.self c.listen.new.self o) c.in_default.is c.in_ok-state-in-Awaiting.ensures.listened in
+    listened-lighter c.loop-self.self c.listen.new.self l
+
+pub returns-in-Some-clause-keeps : goal.returns-in-Some-clause-keeps
+returns-in-Some-clause-keeps c =
+    let l = subst (λ (o : Option State). Listened c.loop-self.self c.listen.new.self o) c.in-Some.is c.in_ok-state-in-Awaiting.ensures.listened in
+    keeps-then _ _ _ c.loop-self.invariant.keeps (halted c.loop-self.self c.listen.new.self c.in-Awaiting.call c.in-Some.state c.in-Awaiting.is l).keeps

@@ -1,0 +1,94 @@
+-- What the private calls of a host end do.
+use Rattle.std.specs.Prelude.{◌≡◌, ℕ, ◌+◌, List, [], ◌∷◌, ◌++◌, length, drop, Bool, true, false, Option, Some, None}
+use Rattle.np_model.specs.declared.page.Stage.{Stage}
+use Rattle.np_model.specs.declared.page.Stage.TheVariants.{Begin, Ready, Awaiting, Unanswered, Ended}
+use Rattle.np_model.specs.declared.page.Outstanding.{Outstanding}
+use Rattle.np_model.specs.declared.message.Message.{Message}
+use Rattle.np_model.specs.declared.refusal.Refusal.{Refusal}
+use Rattle.np_model.specs.Encoding.{encoding, encodings, KeepsFormat, IsTyped}
+use Rattle.np_model.specs.Decoding.{Partial, front}
+use Rattle.np_model.specs.Side.{Micro}
+use Rattle.np_model.specs.Run.{Meeting, Accepts, Refuses}
+use Rattle.np_model.specs.PagePlan.{PageControl, meet_plan, reply_plan, unmatched}
+use Rattle.np_host_end.specs.Steps.{control_after, sent_by, printed_by}
+use Rattle.np_host_end.specs.Refused.{RefusedFront}
+use Rattle.np_host_end.specs.declared.host_end.State.{State}
+use Rattle.np_host_end.specs.declared.host_end.State.TheVariants.{Waiting, Finished, Refused}
+use Rattle.np_host_end.specs.declared.host_core.Core.{Core}
+use Rattle.np_host_end.specs.declared.meet.Fault.{Fault}
+
+-- the page's control stands in the fields of the end
+abbrev pub control_of : Core → PageControl
+control_of e = record {
+  commands = drop e.next e.page.commands;
+  number = e.next;
+  phases = e.phases.items;
+  peer = e.peer;
+  stage = e.stage;
+}
+
+-- the steps of a plan were done
+pub record Moves (old new : Core) (steps : List (Micro PageControl)) : Type 0 where
+  pub control : control_of new ≡ control_after steps (control_of old)
+  pub outgoing : new.outgoing.items ≡ old.outgoing.items ++ encodings (sent_by steps)
+  pub journal : new.journal.items ≡ old.journal.items ++ printed_by steps
+  pub page : new.page ≡ old.page
+
+-- a message was accepted, and the steps of its plan were done
+abbrev pub MovesAs : Core → Core → Meeting PageControl → Type 0
+MovesAs old new (Accepts steps) = Moves old new steps
+MovesAs old new (Refuses rule first second) = ⊥
+
+-- a message was met, and refused where there is a fault
+abbrev pub Meets : Core → Core → Message → Option Fault → Type 0
+Meets old new m None = MovesAs old new (meet_plan (control_of old) m)
+Meets old new m (Some fault) = (meet_plan (control_of old) m ≡ Refuses fault.rule fault.first fault.second) × (new ≡ old)
+
+-- a reply at the call's depth was met, or nothing was done where it is none to that call
+abbrev pub Replies : Core → Core → Outstanding → Message → Bool → Type 0
+Replies old new call m true = MovesAs old new (reply_plan (control_of old) m call m.body)
+Replies old new call m false = (reply_plan (control_of old) m call m.body ≡ unmatched m) × (new ≡ old)
+
+-- all but the control stayed
+pub record SameBut (old new : Core) : Type 0 where
+  pub page : new.page ≡ old.page
+  pub feed : new.feed ≡ old.feed
+  pub outgoing : new.outgoing ≡ old.outgoing
+  pub journal : new.journal ≡ old.journal
+
+-- the page doesn't wait
+abbrev pub IsActing : Stage → Type 0
+IsActing Begin = Unit {0}
+IsActing Ready = Unit {0}
+IsActing (Awaiting call) = ⊥
+IsActing (Unanswered call) = Unit {0}
+IsActing Ended = ⊥
+
+-- the next message was taken off the feed and met
+pub record Listens (old new : Core) : Type 0 where
+  pub message : Message
+  pub bytes : old.feed.left ≡ encoding message ++ new.feed.left
+  pub keeps : KeepsFormat message
+  pub typed : IsTyped message.body
+  pub consumed : new.feed.consumed + length new.feed.left ≡ old.feed.consumed + length old.feed.left
+  pub meets : MovesAs old new (meet_plan (control_of old) message)
+
+-- the page waits as before
+pub record Waits (old new : Core) : Type 0 where
+  pub same : new ≡ old
+  pub partial : front old.feed.consumed old.feed.left ≡ Partial
+
+-- what stands at the front of the feed is refused, and nothing of it took effect
+pub record IsRefused (old new : Core) (r : Refusal) : Type 0 where
+  pub control : control_of new ≡ control_of old
+  pub outgoing : new.outgoing.items ≡ old.outgoing.items
+  pub journal : new.journal.items ≡ old.journal.items
+  pub page : new.page ≡ old.page
+  pub refused : RefusedFront (control_of old) old.feed.consumed r (front old.feed.consumed old.feed.left)
+
+-- an end that awaits a message went on with it, or halted
+abbrev pub Listened : Core → Core → Option State → Type 0
+Listened old new None = Listens old new
+Listened old new (Some Waiting) = Waits old new
+Listened old new (Some Finished) = ⊥
+Listened old new (Some (Refused r)) = IsRefused old new r

@@ -1,0 +1,11 @@
+pub mod Steps
+pub mod Refused
+pub mod Core
+pub mod HostEnd
+pub use Rattle.np_model.specs.Script
+pub use Rattle.np_model.specs.Encoding
+pub use Rattle.np_model.specs.Decoding
+pub use Rattle.np_model.specs.Side
+pub use Rattle.np_model.specs.Run
+pub use Rattle.np_model.specs.PagePlan
+pub use Rattle.np_model.specs.HostRun

@@ -1,0 +1,32 @@
+-- Which refusal answers what stands at the front of the bytes. (This project's own.)
+use Rattle.std.specs.Prelude.{◌≡◌, ℕ}
+use Rattle.np_model.specs.declared.refusal.Rule.{Rule}
+use Rattle.np_model.specs.declared.refusal.Rule.TheVariants as rules
+use Rattle.np_model.specs.declared.refusal.Refusal.{Refusal}
+use Rattle.np_model.specs.declared.wire.WireKind.{WireKind}
+use Rattle.np_model.specs.declared.wire.WireKind.TheVariants.{Length, Item, Rest}
+use Rattle.np_model.specs.declared.wire.WireError.{WireError}
+use Rattle.np_model.specs.Decoding.{Front, Partial, Whole, Bad}
+use Rattle.np_model.specs.Run.{Meeting, Accepts, Refuses}
+use Rattle.np_model.specs.PagePlan.{PageControl, meet_plan}
+
+-- the rule that a fault of the wire format breaks
+abbrev pub rule_of : WireKind → Rule
+rule_of Length = rules.Length
+rule_of Item = rules.Item
+rule_of Rest = rules.Rest
+
+-- the refusal of bytes that are no message
+abbrev pub refusal_of : WireError → Refusal
+refusal_of e = record { at = e.at; rule = rule_of e.kind; first = e.first; second = e.second }
+
+-- the refusal of a message that begins at this place, where its plan refuses it
+abbrev pub RefusedMeeting : ℕ → Refusal → Meeting PageControl → Type 0
+RefusedMeeting at r (Accepts steps) = ⊥
+RefusedMeeting at r (Refuses rule first second) = r ≡ record { at = at; rule = rule; first = first; second = second }
+
+-- the message at the front of these bytes, the first of which is at this place, is refused so
+abbrev pub RefusedFront : PageControl → ℕ → Refusal → Front → Type 0
+RefusedFront c at r Partial = ⊥
+RefusedFront c at r (Whole m rest) = RefusedMeeting at r (meet_plan c m)
+RefusedFront c at r (Bad e) = r ≡ refusal_of e

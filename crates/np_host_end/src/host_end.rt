@@ -1,0 +1,205 @@
+//! The browser end as its owner sees it.
+
+ghost use Rattle.std.specs.Prelude.{◌≡◌, ◌+◌, ◌≤◌, ◌^◌, ◌++◌, [], List, ℕ, length, take, drop, IsOk, OnOk, OnErr, IfOk, true, false};
+ghost use Rattle.np_model.specs.Script.{commands_fit};
+ghost use Rattle.np_model.specs.Side.{SideState};
+ghost use Rattle.np_model.specs.PagePlan.{PageControl};
+
+use crate::host_core::Core;
+use np_model::{Page, Refusal};
+use np_values::NoMemory;
+use std::alloc::Global;
+use std::marker::Model;
+
+/// How far a run of an end has come. (This project's own.)
+#[derive(Clone, Copy, Debug, PartialEq, Eq)]
+pub enum State {
+    /// It needs a message that isn't whole yet.
+    Waiting,
+    /// The reply to Shutdown was delivered, or the page ended after the plug-in was lost.
+    Finished,
+    /// It refused what the plug-in sent, and nothing of that took effect. Every later run answers the same
+    /// until `gone`.
+    Refused(Refusal),
+}
+
+/// The browser end of a page, as a machine from the plug-in's bytes to the page's. It reads and writes
+/// nothing itself: its owner gives it bytes by `take`, lets it `run`, and carries off what is in
+/// `outgoing` and `journal`. Where memory ran out it has failed for good, and what it has made since its
+/// last call that went well is not to be carried off any more. (This project's own.)
+#[derive(Drop)]
+pub struct HostEnd {
+    core: Core,
+    state: State,
+    failed: bool,
+}
+
+impl Model for HostEnd {
+    ghost use Rattle.np_host_end.specs.HostEnd.{EndState, seen};
+
+    ghost Value = { EndState };
+
+    ghost view = { λ e. seen e.core e.state e.failed };
+}
+
+impl HostEnd {
+    ghost use Rattle.np_model.specs.declared.script.Page.{Page};
+    ghost use Rattle.np_model.specs.declared.page.Stage.TheVariants.{Ended};
+    ghost use Rattle.np_model.specs.declared.refusal.Refusal.{Refusal};
+    ghost use Rattle.np_host_end.specs.declared.host_end.State.TheVariants.{Waiting, Refused};
+    ghost use Rattle.np_model.specs.PagePlan.{peer_lost};
+    ghost use Rattle.np_host_end.specs.HostEnd.{StandsFor, StandsLost, Keeps, RestsAs, end_start, total_of};
+
+    /// The end of a page before anything was done. It owns the page, keeps the allocator, and takes no
+    /// memory yet.
+    pub fn new(alloc: Global, page: Page) -> Result<HostEnd, NoMemory>
+        requires fits { commands_fit 0 page.commands ≡ true }
+        ensures made { IsOk result }
+        ensures fresh { IfOk result (λ end. end ≡ end_start page) }
+        ensures stands { IfOk result (λ end. StandsFor page [] [] [] end) }
+        ensures total { IfOk result (λ end. total_of end ≡ 0) }
+        ensures failed { IfOk result (λ end. end.failed ≡ false) }
+    {
+        Ok(HostEnd {
+            core: Core::new(alloc, page),
+            state: State::Waiting,
+            failed: false,
+        })
+    }
+
+    /// What `run` answered last; `Waiting` before the first run and after `gone`. A run that wanted memory
+    /// leaves it.
+    pub fn state(&self) -> &State
+        ensures same { result.now ≡ self.now.state }
+    {
+        &self.state
+    }
+
+    /// The bytes of the page's messages that were not cut off by `sent`.
+    pub fn outgoing(&self) -> &[u8]
+        ensures same { result.now ≡ self.now.outgoing }
+    {
+        self.core.outgoing.as_slice()
+    }
+
+    /// The bytes of the page's journal that were not cut off by `printed`.
+    pub fn journal(&self) -> &[u8]
+        ensures same { result.now ≡ self.now.journal }
+    {
+        self.core.journal.as_slice()
+    }
+
+    /// Gives it further bytes of the plug-in, in whatever chunks they come; they are copied. It takes at
+    /// most 2^40 bytes in all. After want of memory every later call of it and of `run` answers the same.
+    pub fn take(&mut self, bytes: &[u8]) -> Result<(), NoMemory>
+        requires room { total_of self.old + length bytes.now ≤ 2 ^ 40 }
+        ensures stands { OnOk result ((page : Page) (got sent printed : List ℕ) →
+            StandsFor page got sent printed self.old → StandsFor page (got ++ bytes.now) sent printed self.new) }
+        ensures lost { OnOk result ((page : Page) (p : SideState PageControl) (sent printed : List ℕ) →
+            StandsLost page p sent printed self.old → StandsLost page p sent printed self.new) }
+        ensures same { OnOk result (self.new ≡ record self.old { unread = self.old.unread ++ bytes.now }) }
+        ensures err { OnErr result (self.new.failed ≡ true) }
+        ensures kept { OnErr result (self.new ≡ record self.old { failed = true }) }
+        ensures again { self.old.failed ≡ true → OnOk result ⊥ }
+    {
+        if self.failed {
+            return Err(NoMemory);
+        }
+        match self.core.feed.push(bytes) {
+            Ok(()) => Ok(()),
+            Err(NoMemory) => {
+                self.failed = true;
+                Err(NoMemory)
+            }
+        }
+    }
+
+    /// Cuts the first n bytes off `outgoing`, which were written to the plug-in; 0 cuts nothing off.
+    pub fn sent(&mut self, n: usize)
+        requires within { n ≤ length self.old.outgoing }
+        ensures stands { (page : Page) (got sent printed : List ℕ) →
+            StandsFor page got sent printed self.old → StandsFor page got (sent ++ take n self.old.outgoing) printed self.new }
+        ensures lost { (page : Page) (p : SideState PageControl) (sent printed : List ℕ) →
+            StandsLost page p sent printed self.old → StandsLost page p (sent ++ take n self.old.outgoing) printed self.new }
+        ensures same { self.new ≡ record self.old { outgoing = drop n self.old.outgoing } }
+    {
+        cut_front(&mut self.core.outgoing, n);
+    }
+
+    /// Cuts the first n bytes off `journal`, which were printed; 0 cuts nothing off.
+    pub fn printed(&mut self, n: usize)
+        requires within { n ≤ length self.old.journal }
+        ensures stands { (page : Page) (got sent printed : List ℕ) →
+            StandsFor page got sent printed self.old → StandsFor page got sent (printed ++ take n self.old.journal) self.new }
+        ensures lost { (page : Page) (p : SideState PageControl) (sent printed : List ℕ) →
+            StandsLost page p sent printed self.old → StandsLost page p sent (printed ++ take n self.old.journal) self.new }
+        ensures same { self.new ≡ record self.old { journal = drop n self.old.journal } }
+    {
+        cut_front(&mut self.core.journal, n);
+    }
+
+    /// Goes on until it waits for a message that isn't whole yet, has ended, or refuses a message. After
+    /// want of memory every later run answers the same.
+    pub fn run(&mut self) -> Result<State, NoMemory>
+        ensures keeps { OnOk result (Keeps self.old self.new) }
+        ensures rests { IfOk result (λ state. RestsAs self.new state) }
+
+        // A page whose plug-in is lost waits for nothing.
+        ensures lost { IfOk result (λ state. (page : Page) (p : SideState PageControl) (sent printed : List ℕ) →
+            StandsLost page p sent printed self.old → self.new.control.stage ≡ Ended) }
+        ensures total { OnOk result (total_of self.new ≡ total_of self.old) }
+        ensures failed { OnOk result (self.new.failed ≡ false) }
+        ensures err { OnErr result (self.new.failed ≡ true) }
+        ensures state { OnErr result (self.new.state ≡ self.old.state) }
+
+        // Both endings are answered again from then on, and nothing changes.
+        ensures again { self.old.failed ≡ true → OnOk result ⊥ }
+        ensures stays { self.old.failed ≡ true → self.new ≡ self.old }
+        ensures refused { (refusal : Refusal) → self.old.state ≡ Refused refusal → self.old.failed ≡ false →
+            (result ≡ Ok (Refused refusal)) × (self.new ≡ self.old) }
+    {
+        if self.failed {
+            return Err(NoMemory);
+        }
+        if let State::Refused(refusal) = self.state {
+            return Ok(State::Refused(refusal));
+        }
+        match self.core.run() {
+            Ok(state) => {
+                self.state = state;
+                Ok(state)
+            }
+            Err(NoMemory) => {
+                self.failed = true;
+                Err(NoMemory)
+            }
+        }
+    }
+
+    /// The plug-in is lost; the page goes on alone at the next run, without a message and a call. It may be
+    /// called at any time, and again.
+    pub fn gone(&mut self)
+        ensures lost { (page : Page) (got sent printed : List ℕ) → (old : StandsFor page got sent printed self.old) →
+            StandsLost page old.side sent printed self.new }
+        ensures again { (page : Page) (p : SideState PageControl) (sent printed : List ℕ) →
+            StandsLost page p sent printed self.old → StandsLost page p sent printed self.new }
+        ensures same { self.new ≡ record self.old { control = peer_lost self.old.control; state = Waiting } }
+        ensures total { total_of self.new ≡ total_of self.old }
+        ensures failed { self.new.failed ≡ self.old.failed }
+        ensures outgoing { self.new.outgoing ≡ self.old.outgoing }
+        ensures journal { self.new.journal ≡ self.old.journal }
+    {
+        self.core.lose();
+        self.state = State::Waiting;
+    }
+}
+
+// Cuts the first n bytes off.
+fn cut_front(bytes: &mut Vec<u8>, n: usize)
+    requires within { n ≤ length bytes.old.items }
+    ensures rest { bytes.new.items ≡ drop n bytes.old.items }
+{
+    let len = bytes.len();
+    bytes.rotate_left(n);
+    bytes.truncate(len - n);
+}

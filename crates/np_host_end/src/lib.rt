@@ -1,0 +1,17 @@
+//! The browser end: a page over the bytes of its plug-in, without input or output of its own.
+#![tactic(auto)]
+
+mod calls;
+mod close;
+mod commands;
+mod host_core;
+mod host_end;
+mod lines;
+mod meet;
+mod run;
+
+pub use host_end::{HostEnd, State};
+pub use np_model::{Page, Refusal, Rule};
+
+#[cfg(test)]
+mod tests;

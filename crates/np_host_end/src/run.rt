@@ -1,0 +1,82 @@
+//! The run of an end, from message to message.
+
+ghost use Rattle.std.specs.Prelude.{◌≡◌, OnOk, IfOk, false};
+ghost use Rattle.np_model.specs.declared.page.Stage.TheVariants.{Awaiting};
+ghost use Rattle.np_host_end.specs.Refused.{refusal_of, rule_of as rule_of_kind};
+
+use crate::host_core::Core;
+use crate::host_end::State;
+use np_laws::more_messages_law;
+use np_model::{Outstanding, Refusal, Rule, Stage, WireError, WireKind};
+use np_values::NoMemory;
+use np_wire::FeedError;
+
+fn rule_of(kind: WireKind) -> Rule
+    ensures value { result ≡ rule_of_kind kind }
+{
+    match kind {
+        WireKind::Length => Rule::Length,
+        WireKind::Item => Rule::Item,
+        WireKind::Rest => Rule::Rest,
+    }
+}
+
+fn refusal(error: WireError) -> Refusal
+    ensures value { result ≡ refusal_of error }
+{
+    Refusal {
+        at: error.at,
+        rule: rule_of(error.kind),
+        first: error.first,
+        second: error.second,
+    }
+}
+
+impl Core {
+    ghost use Rattle.np_host_end.specs.HostEnd.{Keeps, RestsAs, seen, total_of};
+    ghost use Rattle.np_host_end.specs.Core.{Listened};
+    ghost use Rattle.np_host_end.specs.declared.host_end.State.TheVariants.{Waiting};
+
+    /// Goes on until the page waits or has ended, or refuses a message.
+    pub fn run(&mut self) -> Result<State, NoMemory>
+        ensures keeps { IfOk result (λ state. Keeps (seen self.old Waiting false) (seen self.new state false)) }
+        ensures rests { IfOk result (λ state. RestsAs (seen self.new state false) state) }
+        ensures total { OnOk result (total_of (seen self.new Waiting false) ≡ total_of (seen self.old Waiting false)) }
+    {
+        more_messages_law();
+        loop {
+            match self.stage {
+                Stage::Ended => return Ok(State::Finished),
+                Stage::Awaiting(call) => {
+                    if let Some(state) = self.listen(call)? {
+                        return Ok(state);
+                    }
+                }
+                Stage::Begin | Stage::Ready | Stage::Unanswered(_) => self.act()?,
+            }
+        }
+    }
+
+    /// Meets the next message; where it can't go on, what it waits for or refuses.
+    fn listen(&mut self, call: Outstanding) -> Result<Option<State>, NoMemory>
+        requires stage { self.old.stage ≡ Awaiting call }
+        ensures listened { IfOk result (λ halt. Listened self.old self.new halt) }
+        ensures total { OnOk result (total_of (seen self.new Waiting false) ≡ total_of (seen self.old Waiting false)) }
+    {
+        let at = self.feed.consumed();
+        match self.feed.next() {
+            Ok(None) => Ok(Some(State::Waiting)),
+            Ok(Some(message)) => match self.meet(call, &message)? {
+                None => Ok(None),
+                Some(fault) => Ok(Some(State::Refused(Refusal {
+                    at,
+                    rule: fault.rule,
+                    first: fault.first,
+                    second: fault.second,
+                }))),
+            },
+            Err(FeedError::Wire(error)) => Ok(Some(State::Refused(refusal(error)))),
+            Err(FeedError::NoMemory) => Err(NoMemory),
+        }
+    }
+}

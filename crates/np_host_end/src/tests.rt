@@ -1,0 +1,204 @@
+ghost use Rattle.std.specs.Prelude.{◌≡◌, ◌<◌, ◌≤◌, OnOk, IfOk, true};
+ghost use Rattle.np_model.specs.Script.{commands_fit};
+ghost use Rattle.np_host_end.specs.HostEnd.{total_of};
+
+use super::*;
+use np_model::{Command, Commands};
+use np_values::Text;
+use std::alloc::Global;
+use std::process::Abort;
+use std::test::*;
+
+const HELLO: &[u8] = b"\0\0\0\x07\x01\x01\0\0\x01\0\x1b";
+
+const NEW: &[u8] = b"\0\0\0\x0c\x02\x01\0\0\x01\x01\0\x03t/x\0";
+
+const TURN: &[u8] = b"\0\0\0\x04\x05\x01\0\0";
+
+const DESTROY: &[u8] = b"\0\0\0\x05\x03\x01\0\0\x01";
+
+const SHUTDOWN: &[u8] = b"\0\0\0\x04\x0c\x01\0\0";
+
+const CODE_0: &[u8] = b"\0\0\0\x05\x45\x01\0\0\0";
+
+const DONE: &[u8] = b"\0\0\0\x04\x47\x01\0\0";
+
+// The bytes of the plug-in, what is to come of them, and the journal where it is lost after them.
+#[derive(Drop)]
+struct Row<'a> {
+    given: &'a [&'a [u8]],
+    state: State,
+    outgoing: &'a [&'a [u8]],
+    journal: &'a [u8],
+    lost: &'a [u8],
+}
+
+// The page of the commands `create "t/x" embed` and `turn`.
+fn page(alloc: Global) -> Result<Page, Fail>
+    ensures { IfOk result (λ page. commands_fit 0 page.commands ≡ true) }
+{
+    let mut commands = Commands::new(alloc);
+    commands.push(Command::Create {
+        mime: Text::new(alloc, b"t/x")?,
+        mode: 1,
+    })?;
+    commands.push(Command::Turn)?;
+    Ok(Page {
+        major: 0,
+        minor: 27,
+        commands,
+    })
+}
+
+fn joined(alloc: Global, parts: &[&[u8]]) -> Result<Vec<u8>, Fail> {
+    let mut bytes = Vec::new(alloc);
+    for part in parts {
+        bytes.extend_from_slice(part)?;
+    }
+    Ok(bytes)
+}
+
+// Cuts off what the end has made, at most so many bytes of each.
+fn carry_off(
+    end: &mut HostEnd,
+    most: usize,
+    outgoing: &mut Vec<u8>,
+    journal: &mut Vec<u8>,
+) -> Result<(), Fail>
+    ensures { OnOk result (total_of end.new ≡ total_of end.old) }
+{
+    let n = end.outgoing().len().min(most);
+    outgoing.extend_from_slice(&end.outgoing()[..n])?;
+    end.sent(n);
+    let n = end.journal().len().min(most);
+    journal.extend_from_slice(&end.journal()[..n])?;
+    end.printed(n);
+    Ok(())
+}
+
+fn refused(at: u64, rule: Rule, first: u64, second: u64) -> State {
+    State::Refused(Refusal {
+        at,
+        rule,
+        first,
+        second,
+    })
+}
+
+// Runs a row in chunks of this size.
+fn runs(rt: &impl Abort, alloc: Global, row: &Row, size: usize) -> Result<(), Fail>
+    requires some { 0 < size }
+    requires few { size ≤ 4096 }
+{
+    let given = joined(alloc, row.given)?;
+    assert!(rt; given.len() <= 4096);
+    let mut outgoing = Vec::new(alloc);
+    let mut journal = Vec::new(alloc);
+    let mut end = HostEnd::new(alloc, page(alloc)?)?;
+    end.run()?;
+    let mut at = 0;
+    while at < given.len() {
+        let behind = given.len().min(at + size);
+        end.take(&given[at..behind])?;
+        end.run()?;
+        carry_off(&mut end, size, &mut outgoing, &mut journal)?;
+        at = behind;
+    }
+    carry_off(&mut end, 4096, &mut outgoing, &mut journal)?;
+    assert_eq!(rt; *end.state(), row.state);
+    assert_eq!(rt; end.run()?, row.state);
+    assert_eq!(rt; outgoing, joined(alloc, row.outgoing)?);
+    assert_eq!(rt; journal.as_slice(), row.journal);
+    end.gone();
+    assert_eq!(rt; *end.state(), State::Waiting);
+    assert_eq!(rt; end.run()?, State::Finished);
+    carry_off(&mut end, 4096, &mut outgoing, &mut journal)?;
+    assert_eq!(rt; outgoing, joined(alloc, row.outgoing)?);
+    assert_eq!(rt; journal.as_slice(), row.lost);
+    Ok(())
+}
+
+#[test]
+fn worked_examples(rt: HostRuntime) -> Result<(), Fail> {
+    let rows = [
+        Row {
+            given: &[CODE_0, CODE_0, DONE, CODE_0, DONE],
+            state: State::Finished,
+            outgoing: &[HELLO, NEW, TURN, DESTROY, SHUTDOWN],
+            journal: b"1: error 0\n2: true void\n",
+            lost: b"1: error 0\n2: true void\n",
+        },
+        Row {
+            given: &[CODE_0, CODE_0, b"\0\0\0\x04\x47\x01\0"],
+            state: State::Waiting,
+            outgoing: &[HELLO, NEW, TURN],
+            journal: b"1: error 0\n",
+            lost: b"1: error 0\n2: false\n",
+        },
+        Row {
+            given: &[CODE_0, CODE_0, DONE],
+            state: State::Waiting,
+            outgoing: &[HELLO, NEW, TURN, DESTROY],
+            journal: b"1: error 0\n2: true void\n",
+            lost: b"1: error 0\n2: true void\n",
+        },
+        Row {
+            given: &[],
+            state: State::Waiting,
+            outgoing: &[HELLO],
+            journal: b"",
+            lost: b"1: error 4\n2: false\n",
+        },
+        Row {
+            given: &[CODE_0, b"\0\0\0\x05\x45\x01\0\0\x03", DONE, DONE],
+            state: State::Finished,
+            outgoing: &[HELLO, NEW, TURN, SHUTDOWN],
+            journal: b"1: error 3\n2: true void\n",
+            lost: b"1: error 3\n2: true void\n",
+        },
+        Row {
+            given: &[b"\0\0\0\x05\x45\x01\0\0\x08", DONE, DONE],
+            state: State::Finished,
+            outgoing: &[HELLO, TURN, SHUTDOWN],
+            journal: b"1: error 8\n2: true void\n",
+            lost: b"1: error 8\n2: true void\n",
+        },
+    ];
+    for row in &rows {
+        runs(&rt, rt.alloc(), row, 1)?;
+        runs(&rt, rt.alloc(), row, 4096)?;
+    }
+    Ok(())
+}
+
+#[test]
+fn refusals(rt: HostRuntime) -> Result<(), Fail> {
+    let rows: [(&'static [u8], State); 8] = [
+        (b"\0\0\0\x03", refused(18, Rule::Length, 3, 32768)),
+        (b"\0\0\0\x04\x48\x01\0\0", refused(22, Rule::Item, 18, 4)),
+        (b"\0\0\0\x05\x47\x01\0\0\0", refused(26, Rule::Rest, 18, 5)),
+        (TURN, refused(18, Rule::WrongKind, 5, 0)),
+        (DESTROY, refused(18, Rule::WrongKind, 3, 1)),
+        (
+            b"\0\0\0\x04\x47\x02\0\0",
+            refused(18, Rule::Unmatched, 2, 1),
+        ),
+        (CODE_0, refused(18, Rule::Unmatched, 1, 1)),
+        (
+            b"\0\0\0\x04\x47\x81\0\0",
+            refused(18, Rule::Unmatched, 129, 1),
+        ),
+    ];
+    for (last, state) in rows {
+        let row = Row {
+            given: &[CODE_0, CODE_0, last],
+            state,
+            outgoing: &[HELLO, NEW, TURN],
+            journal: b"1: error 0\n",
+            lost: b"1: error 0\n2: false\n",
+        };
+        runs(&rt, rt.alloc(), &row, 1)?;
+        runs(&rt, rt.alloc(), &row, 4096)?;
+    }
+    Ok(())
+}

@@ -1,0 +1,12 @@
+//! The laws of runs: one side alone and the machine of both sides.
+#![tactic(auto)]
+
+mod laws;
+
+pub use laws::{
+    alone_law, cut_law, endpoint_law, few_calls_law, honest_law, journal_law, lost_law,
+    more_messages_law, one_rest_law, paced_law, plugin_cut_law, replies_law, rounds_law,
+};
+
+#[cfg(test)]
+mod tests;

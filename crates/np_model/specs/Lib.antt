@@ -1,0 +1,11 @@
+pub mod Script
+pub mod Encoding
+pub mod Decoding
+pub mod Side
+pub mod Run
+pub mod Journal
+pub mod PagePlan
+pub mod PluginPlan
+pub mod HostRun
+pub use Rattle.np_values.specs.Text
+pub use Rattle.np_values.specs.NpError

@@ -1,0 +1,147 @@
+//! A peer that is a program of the platform.
+
+ghost use Rattle.std.specs.Prelude.{◌≡◌, ◌≤◌, false, None, length, IfOk};
+ghost use Rattle.np_ports.specs.Adapters.{child_ended, child_start_faults, child_pipe_faults};
+
+use crate::faults::{fail, refuse};
+use crate::{Peer, PortError};
+use std::alloc::Global;
+use std::io;
+use std::io::{ErrorKind, Read, Write};
+use std::process::{Child, Command, ExitStatus, OpenProcess, Processes, Stdio};
+use std::rt::Clock;
+use std::time::Duration;
+
+// How often `close` asks whether the program has ended, and how long it waits in between, in milliseconds.
+const TRIES: u32 = 200;
+
+const PAUSE: u64 = 10;
+
+/// A started program's pipes: reads give what it prints, writes go to its standard input, and its standard
+/// error is this program's. It tells nothing of the bytes. A call before a start, and a start after one that
+/// was done, fail. This project's own.
+#[derive(Drop)]
+pub struct ChildPeer<R: Processes + Clock + Drop> {
+    runtime: R,
+    alloc: Global,
+    child: Option<Child<R::Started>>,
+    ended: bool,
+    start_faults: u64,
+    pipe_faults: u64,
+}
+
+impl<R: Processes + Clock + Drop> ChildPeer<R> {
+    /// A peer that isn't started yet.
+    pub fn new(runtime: R, alloc: Global) -> ChildPeer<R>
+        ensures ended { child_ended result ≡ false }
+        ensures start_faults { child_start_faults result ≡ 0 }
+        ensures pipe_faults { child_pipe_faults result ≡ 0 }
+    {
+        ChildPeer {
+            runtime,
+            alloc,
+            child: None,
+            ended: false,
+            start_faults: 0,
+            pipe_faults: 0,
+        }
+    }
+
+    /// Closes both pipes, and gives the program two seconds to end; a program that takes longer is left
+    /// running, and answers `None`. Each later call but of the end fails.
+    pub fn close(&mut self) -> Option<ExitStatus>
+        ensures ended { child_ended self.new ≡ child_ended self.old }
+        ensures start_faults { child_start_faults self.new ≡ child_start_faults self.old }
+        ensures pipe_faults { child_pipe_faults self.new ≡ child_pipe_faults self.old }
+    {
+        let mut child = self.child.take()?;
+        drop(child.stdin.take());
+        drop(child.stdout.take());
+        for _ in 0..TRIES {
+            if let Ok(Some(status)) = child.try_wait() {
+                return Some(status);
+            }
+            std::thread::sleep(&self.runtime, Duration::from_millis(PAUSE));
+        }
+        None
+    }
+
+    fn spawn(&self, words: &[String]) -> io::Result<Child<R::Started>> {
+        let Some((program, arguments)) = words.split_first() else {
+            return Err(io::Error::from(ErrorKind::InvalidInput));
+        };
+        let mut command = Command::new(self.alloc, program.as_str())?;
+        for word in arguments {
+            command.arg(word.as_str())?;
+        }
+        command.stdin(Stdio::piped());
+        command.stdout(Stdio::piped());
+        command.spawn(&self.runtime)
+    }
+}
+
+fn read_output<P: OpenProcess>(child: &mut Option<Child<P>>, buf: &mut [u8]) -> io::Result<usize>
+    ensures { IfOk result (λ n. n ≤ length buf.new) }
+{
+    if let Some(child) = child {
+        if let Some(output) = &mut child.stdout {
+            return output.read(buf);
+        }
+    }
+    Err(io::Error::from(ErrorKind::NotConnected))
+}
+
+fn write_input<P: OpenProcess>(child: &mut Option<Child<P>>, bytes: &[u8]) -> io::Result<usize>
+    ensures { IfOk result (λ n. n ≤ length bytes.now) }
+{
+    if let Some(child) = child {
+        if let Some(input) = &mut child.stdin {
+            return input.write(bytes);
+        }
+    }
+    Err(io::Error::from(ErrorKind::NotConnected))
+}
+
+impl<R: Processes + Clock + Drop> Peer for ChildPeer<R> {
+    ghost known = { λ p. None };
+
+    ghost has_ended = { λ p. child_ended p };
+
+    ghost start_faults = { λ p. child_start_faults p };
+
+    ghost pipe_faults = { λ p. child_pipe_faults p };
+
+    fn start(&mut self, words: &[String]) -> Result<(), PortError> {
+        if self.child.is_some() {
+            return fail(&mut self.start_faults);
+        }
+        match self.spawn(words) {
+            Ok(child) => {
+                self.child = Some(child);
+                Ok(())
+            }
+            Err(e) => refuse(&mut self.start_faults, e),
+        }
+    }
+
+    fn read(&mut self, buf: &mut [u8]) -> Result<usize, PortError> {
+        if self.ended {
+            return Ok(0);
+        }
+        match read_output(&mut self.child, buf) {
+            Ok(n) => {
+                self.ended = n == 0;
+                Ok(n)
+            }
+            Err(e) => refuse(&mut self.pipe_faults, e),
+        }
+    }
+
+    fn write(&mut self, bytes: &[u8]) -> Result<usize, PortError> {
+        match write_input(&mut self.child, bytes) {
+            Ok(0) => fail(&mut self.pipe_faults),
+            Ok(n) => Ok(n),
+            Err(e) => refuse(&mut self.pipe_faults, e),
+        }
+    }
+}

@@ -1,0 +1,31 @@
+//! How the adapters answer errors of the platform.
+
+ghost use Rattle.std.specs.Prelude.{◌≡◌, Err, IsErr};
+ghost use Rattle.np_ports.specs.declared.error.PortError.TheVariants.{Failed};
+ghost use Rattle.np_ports.specs.Causes.{HasCause};
+ghost use Rattle.np_ports.specs.Plan.{counted};
+
+use crate::PortError;
+use std::io::{Error, ErrorKind};
+
+// Counts a failure and answers it.
+pub(crate) fn fail<T>(faults: &mut u64) -> Result<T, PortError>
+    ensures failed { result ≡ Err Failed }
+    ensures cause { HasCause faults.old faults.new result }
+    ensures count { faults.new ≡ counted faults.old result }
+{
+    *faults = faults.saturating_add(1);
+    Err(PortError::Failed)
+}
+
+// Answers an error of the platform: want of memory where it is that, and else a failure, which is counted.
+pub(crate) fn refuse<T>(faults: &mut u64, error: Error) -> Result<T, PortError>
+    ensures refused { IsErr result }
+    ensures cause { HasCause faults.old faults.new result }
+    ensures count { faults.new ≡ counted faults.old result }
+{
+    match error.kind() {
+        ErrorKind::OutOfMemory => Err(PortError::NoMemory),
+        _ => fail(faults),
+    }
+}

@@ -1,0 +1,36 @@
+//! The environment as traits, with forms in memory and adapters to the platform.
+#![tactic(auto)]
+
+mod bytes;
+mod call_plan;
+mod child_peer;
+mod error;
+mod faults;
+mod file_call;
+mod file_memory;
+mod host_files;
+mod mem_files;
+mod mem_sink;
+mod peer_memory;
+mod scripted_peer;
+mod stdout_sink;
+mod sure_files;
+mod sure_peer;
+mod sure_sink;
+#[cfg(test)]
+mod tests;
+mod traits;
+mod words;
+
+pub use child_peer::ChildPeer;
+pub use error::PortError;
+pub use file_call::FileCall;
+pub use host_files::HostFiles;
+pub use mem_files::MemFiles;
+pub use mem_sink::MemSink;
+pub use scripted_peer::ScriptedPeer;
+pub use stdout_sink::StdoutSink;
+pub use sure_files::SureFiles;
+pub use sure_peer::SurePeer;
+pub use sure_sink::SureSink;
+pub use traits::{Files, Peer, Sink};

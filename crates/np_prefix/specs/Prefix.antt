@@ -1,0 +1,47 @@
+-- The page alone with a prefix of the plug-in's wire text is the page of the one process that only the whole messages of that prefix reach.
+use Rattle.std.specs.Prelude.{◌≡◌, ℕ, ◌+◌, ◌*◌, ◌≤◌, List, ◌++◌, length}
+use Rattle.np_model.specs.declared.script.Page.{Page}
+use Rattle.np_model.specs.declared.message.Message.{Message}
+use Rattle.np_model.specs.declared.refusal.Refusal.{Refusal}
+use Rattle.np_model.specs.Encoding.{encodings}
+use Rattle.np_model.specs.Decoding.{Partial, front}
+use Rattle.np_model.specs.Side.{SideState}
+use Rattle.np_model.specs.PagePlan.{PageControl}
+use Rattle.np_model.specs.PluginPlan.{Plugin}
+use Rattle.np_model.specs.HostRun.{HostRests, IsPluginText}
+use Rattle.np_host_end.specs.HostEnd.{AreMessages, IsRefusal}
+use Rattle.np_prefix.specs.Alone.{ComesTo, WaitsAt, EndsAt}
+
+-- the bytes are n messages one after another, and less than a whole one
+pub record IsWhole (bytes : List ℕ) (n : ℕ) : Type 0 where
+  pub messages : List Message
+  pub rest : List ℕ
+  pub count : length messages ≡ n
+  pub keep : AreMessages messages
+  pub parts : bytes ≡ encodings messages ++ rest
+  pub partial : front (length (encodings messages)) rest ≡ Partial
+
+-- bytes have one number of whole messages
+abbrev pub OneWholeLaw : Type 0
+OneWholeLaw = (bytes : List ℕ) (n m : ℕ) → IsWhole bytes n → IsWhole bytes m → n ≡ m
+
+-- where the page waits with these bytes, it rests in the one process at the same place
+abbrev pub WaitsLaw : Type 0
+WaitsLaw = (page : Page) (plugin : Plugin) (given : List ℕ) (side : SideState PageControl) → IsPluginText page plugin given → WaitsAt page given side → HostRests page plugin (length side.examined) side × IsWhole given (length side.examined)
+
+-- and where it ends
+abbrev pub EndsLaw : Type 0
+EndsLaw = (page : Page) (plugin : Plugin) (given : List ℕ) (side : SideState PageControl) → IsPluginText page plugin given → EndsAt page given side → HostRests page plugin (length side.examined) side × IsWhole given (length side.examined)
+
+-- nothing of such bytes is refused
+abbrev pub NeverRefusesLaw : Type 0
+NeverRefusesLaw = (page : Page) (plugin : Plugin) (given : List ℕ) (side : SideState PageControl) (r : Refusal) → IsPluginText page plugin given → (c : ComesTo page given side) → IsRefusal side.control (length (encodings side.examined)) c.left r → ⊥
+
+-- what the page printed and sent by some point begins what it printed and sent where it rests
+abbrev pub BeginsLaw : Type 0
+BeginsLaw = (page : Page) (plugin : Plugin) (given : List ℕ) (n : ℕ) (side p : SideState PageControl) → IsPluginText page plugin given → ComesTo page given side → IsWhole given n → HostRests page plugin n p →
+    ((line : List ℕ) × (p.journal ≡ side.journal ++ line)) × ((messages : List Message) × (p.sent ≡ side.sent ++ messages))
+
+-- few bytes are such a prefix: at most nine for each call, and at most two calls for each command beside Hello and Shutdown
+abbrev pub FewBytesLaw : Type 0
+FewBytesLaw = (page : Page) (plugin : Plugin) (given : List ℕ) → IsPluginText page plugin given → length given ≤ 9 * (2 * length page.commands + 2)

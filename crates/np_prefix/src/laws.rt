@@ -1,0 +1,70 @@
+ghost use Rattle.np_prefix.specs.Prefix.{NeverRefusesLaw, WaitsLaw, EndsLaw, BeginsLaw, OneWholeLaw, FewBytesLaw};
+
+/// Nothing of a prefix of the plug-in's wire text is refused.
+pub fn never_refuses_law()
+    ensures law { NeverRefusesLaw }
+{
+    np_wire::encoded_is_read_again();
+    np_wire::no_encoding_begins_another();
+    np_wire::partial_is_cut_short();
+    np_laws::replies_law();
+    np_laws::more_messages_law();
+    np_laws::honest_law();
+}
+
+/// Where the page waits, it rests in the run that only the whole messages of its bytes reach.
+pub fn waits_law()
+    ensures law { WaitsLaw }
+{
+    np_wire::encoded_is_read_again();
+    np_wire::no_encoding_begins_another();
+    np_wire::partial_is_cut_short();
+    np_laws::replies_law();
+    np_laws::cut_law();
+}
+
+/// Where the page ends, it rests in the run that only the whole messages of its bytes reach.
+pub fn ends_law()
+    ensures law { EndsLaw }
+{
+    np_wire::encoded_is_read_again();
+    np_wire::no_encoding_begins_another();
+    np_wire::partial_is_cut_short();
+    np_laws::replies_law();
+    np_laws::cut_law();
+    np_laws::more_messages_law();
+    np_laws::rounds_law();
+    np_laws::endpoint_law();
+    np_laws::journal_law();
+    np_laws::paced_law();
+}
+
+/// What the page printed and sent stays where it comes to rest.
+pub fn begins_law()
+    ensures law { BeginsLaw }
+{
+    np_wire::encoded_is_read_again();
+    np_wire::no_encoding_begins_another();
+    np_wire::partial_is_cut_short();
+    np_laws::replies_law();
+    np_laws::alone_law();
+    np_laws::journal_law();
+}
+
+/// Bytes have one number of whole messages.
+pub fn one_whole_law()
+    ensures law { OneWholeLaw }
+{
+    np_wire::encoded_is_read_again();
+    np_wire::no_encoding_begins_another();
+}
+
+/// The plug-in's wire text is short: at most nine bytes for each call that the page may make.
+pub fn few_bytes_law()
+    ensures law { FewBytesLaw }
+{
+    np_laws::replies_law();
+    np_laws::rounds_law();
+    np_laws::endpoint_law();
+    np_laws::few_calls_law();
+}

@@ -1,0 +1,2 @@
+pub mod NpError
+pub mod Text

@@ -1,0 +1,13 @@
+use Rattle.std.proofs.Common.{◌≡◌, take, arith}
+use Rattle.std.specs.Int.{w32, from_be_bytes}
+use Rattle.std.proofs.lemmas.Grind.{common_steps}
+use Rattle.np_wire.proofs.Fronts.{front_is, front_found}
+use Rattle.np_wire.proofs.feed.front.Goals as goal
+
+pub returns-clause-front : goal.returns-clause-front
+returns-clause-front c =
+    let n-is : c.from_be_bytes-size.result ≡ from_be_bytes w32 (take 4 c.args.bytes.now) = grind (arith, common_steps) in
+    front_is c.args.at _ c.args.bytes.now _ c.sized.result (omega arith) n-is c.split_at.ensures.back c.sized.ensures.front
+
+pub returns-clause-found : goal.returns-clause-found
+returns-clause-found c = front_found c.args.at c.args.bytes.now c.sized.result (λ i. omega (arith, c.type_inv.bytes i)) (returns-clause-front c)

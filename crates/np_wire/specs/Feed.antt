@@ -1,0 +1,45 @@
+-- What a feed has, and what it answers.
+use Rattle.std.specs.Prelude.{◌≡◌, ℕ, ◌+◌, ◌-◌, ◌≤◌, List, ◌++◌, length, drop, Option, Some, None, Result, Ok, Err}
+use Rattle.np_model.specs.declared.message.Message.{Message}
+use Rattle.np_model.specs.Encoding.{encoding, KeepsFormat, IsTyped}
+use Rattle.np_model.specs.Decoding.{Front, Partial, Whole, Bad, front, front_sized}
+use Rattle.np_wire.specs.declared.error.FeedError.{FeedError}
+use Rattle.np_wire.specs.declared.error.FeedError.TheVariants.{Wire, NoMemory}
+
+-- how many bytes the messages given so far have, and the bytes that are left
+pub record Fed : Type 0 where
+  pub consumed : ℕ
+  pub left : List ℕ
+
+-- what next answers is what stands at the front, and only a message is taken off
+abbrev pub NextGives : Fed → Fed → Result (Option Message) FeedError → Type 0
+NextGives old new (Ok None) = (front old.consumed old.left ≡ Partial) × (new ≡ old)
+NextGives old new (Ok (Some m)) = (front old.consumed old.left ≡ Whole m new.left) × (new.consumed + length new.left ≡ old.consumed + length old.left)
+NextGives old new (Err (Wire e)) = (front old.consumed old.left ≡ Bad e) × (new ≡ old)
+NextGives old new (Err NoMemory) = new ≡ old
+
+-- a message with its number of bytes is what stands at the front
+abbrev pub FrontIs : Front → List ℕ → Result (Option (Message × ℕ)) FeedError → Type 0
+FrontIs seen bytes (Ok None) = seen ≡ Partial
+FrontIs seen bytes (Ok (Some m)) = seen ≡ Whole m.0 (drop m.1 bytes)
+FrontIs seen bytes (Err (Wire e)) = seen ≡ Bad e
+FrontIs seen bytes (Err NoMemory) = Unit {0}
+
+abbrev pub FrontGives : ℕ → List ℕ → Result (Option (Message × ℕ)) FeedError → Type 0
+FrontGives at bytes r = FrontIs (front at bytes) bytes r
+
+-- as FrontIs, of the bytes behind the four of the length
+abbrev pub SizedIs : Front → List ℕ → Result (Option (Message × ℕ)) FeedError → Type 0
+SizedIs seen rest (Ok None) = seen ≡ Partial
+SizedIs seen rest (Ok (Some m)) = (4 ≤ m.1) × (seen ≡ Whole m.0 (drop (m.1 - 4) rest))
+SizedIs seen rest (Err (Wire e)) = seen ≡ Bad e
+SizedIs seen rest (Err NoMemory) = Unit {0}
+
+abbrev pub SizedGives : ℕ → ℕ → List ℕ → Result (Option (Message × ℕ)) FeedError → Type 0
+SizedGives at n rest r = SizedIs (front_sized at n rest) rest r
+
+-- the old bytes are those of the message, which is of the format, and then the new ones
+pub record IsEncoded (m : Message) (old new : List ℕ) : Type 0 where
+  pub parts : old ≡ encoding m ++ new
+  pub format : KeepsFormat m
+  pub typed : IsTyped m.body

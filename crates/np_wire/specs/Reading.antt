@@ -1,0 +1,15 @@
+-- What the reader of an item answers.
+use Rattle.std.specs.Prelude.{◌≡◌, Result, Ok, Err}
+use Rattle.np_model.specs.declared.wire.WireError.{WireError}
+use Rattle.np_wire.specs.declared.error.FeedError.{FeedError}
+use Rattle.np_wire.specs.declared.error.FeedError.TheVariants.{Wire, NoMemory}
+
+-- an error is the definition's, or want of memory
+abbrev pub Fails : {Y : Type 0} → FeedError → Result Y WireError → Type 0
+Fails (Wire e) read = read ≡ Err e
+Fails NoMemory read = Unit {0}
+
+-- what was read, seen by view, is what the definition reads
+abbrev pub Gives : {X Y : Type 0} → (X → Y) → Result X FeedError → Result Y WireError → Type 0
+Gives view (Ok x) read = read ≡ Ok (view x)
+Gives view (Err e) read = Fails e read
