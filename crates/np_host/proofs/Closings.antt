@@ -1,5 +1,5 @@
 -- What a session comes to.
-use Rattle.std.proofs.Common.{◌≡◌, ℕ, zero, suc, ◌+◌, ◌≤◌, List, [], ◌∷◌, ◌++◌, Option, Some, None, refl, sym, ap, subst, ◌∙◌, append_assoc, ◌⊎◌, inl, inr, append-nil, Result, Ok, Err}
+use Rattle.std.proofs.Common.{◌≡◌, ℕ, List, [], ◌++◌, Option, Some, None, refl, sym, ap, subst, ◌∙◌, append_assoc, inl, inr, append-nil, Result, Ok, Err}
 use Rattle.std.specs.Prelude.{OnOk, IfOk}
 use Rattle.np_host.specs.declared.stop.Stop.{Stop}
 use Rattle.np_model.specs.declared.script.Page.{Page}
@@ -8,20 +8,19 @@ use Rattle.np_model.specs.declared.page.Stage.TheVariants as stages
 use Rattle.np_model.specs.declared.refusal.Refusal.{Refusal}
 use Rattle.np_model.specs.Encoding.{encodings}
 use Rattle.np_model.specs.Side.{SideState}
-use Rattle.np_model.specs.Run.{Pace, HasNone}
-use Rattle.np_model.specs.PagePlan.{PageControl, page_plans, pace_at}
-use Rattle.np_model.specs.HostRun.{GoesOnLost}
+use Rattle.np_model.specs.Run.{HasNone}
+use Rattle.np_model.specs.PagePlan.{PageControl, pace_at}
 use Rattle.np_model.specs.Journal.{end_line, refused_line}
 use Rattle.np_ports.specs.Peer.{Known}
 use Rattle.np_host_end.specs.HostEnd.{EndState, StandsFor, StandsLost}
 use Rattle.np_host_end.specs.declared.host_end.State.{State}
 use Rattle.np_host.specs.declared.ending.Ending.{Ending}
 use Rattle.np_host.specs.declared.ending.Ending.TheVariants.{Done, Unsent, Ended, Failed, Refused}
-use Rattle.np_prefix.specs.Alone.{WaitsAt, EndsAt, RefusesAt}
-use Rattle.np_host.specs.Session.{BeginsWith, Completed, PeerEnded, PipeFailed, PeerRefused, Exchanged}
+use Rattle.np_prefix.specs.Alone.{RefusesAt}
+use Rattle.np_host.specs.Session.{BeginsWith, Completed, PeerEnded, PipeFailed, PeerRefused}
 use Rattle.np_host.specs.Causes.{Adds}
-use Rattle.np_host.specs.Live.{Live, Going, Waits, AtEnding, Turned, After, Ran}
-use Rattle.np_host.specs.Closing.{Loses, OutcomeOf, Closed, SessionOutcome, status_of, IsRunStatus}
+use Rattle.np_host.specs.Live.{Live, Going, AtEnding, Turned, Ran}
+use Rattle.np_host.specs.Closing.{Loses, Closed, SessionOutcome, status_of, IsRunStatus}
 use Rattle.np_host.proofs.Exchanges.{waits-at, ends-at, refuses-at, total-is, all-taken}
 
 -- ---- the exchange

@@ -1,5 +1,5 @@
 -- Lines that a sink takes.
-use Rattle.std.proofs.Common.{◌≡◌, ℕ, List, [], ◌++◌, Option, Some, refl, ap, sym, ◌∙◌, append-nil}
+use Rattle.std.proofs.Common.{ℕ, List, [], Option, Some, refl, ap, sym, ◌∙◌, append-nil}
 use Rattle.np_host.specs.Causes.{AddsPart}
 
 pub nothing_added : (taken : Option (List ℕ)) (bytes : List ℕ) → AddsPart taken taken bytes

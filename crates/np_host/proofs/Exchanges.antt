@@ -1,9 +1,8 @@
 -- How an exchange goes on.
-use Rattle.std.proofs.Common.{◌≡◌, ℕ, ◌+◌, ◌-◌, ◌<◌, ◌≤◌, ◌^◌, List, [], ◌∷◌, ◌++◌, length, take, drop, Bool, true, false, Option, Some, None, refl, sym, ap, subst, ◌∙◌, append_assoc, arith, ◌⊎◌, inl, inr}
+use Rattle.std.proofs.Common.{◌≡◌, ℕ, ◌+◌, ◌-◌, ◌^◌, List, [], ◌∷◌, ◌++◌, length, Bool, true, false, Option, Some, None, refl, sym, ap, subst, ◌∙◌, append_assoc, arith, inl, inr}
 use Rattle.std.specs.List.{AllByRecursion}
 use Rattle.std.proofs.lemmas.List.{length-append, take_all, take-append-le, append-nil}
 use Rattle.np_model.specs.declared.script.Page.{Page}
-use Rattle.np_model.specs.declared.page.Stage.TheVariants.{Ended}
 use Rattle.np_model.specs.declared.refusal.Refusal.{Refusal}
 use Rattle.np_model.specs.Encoding.{encodings}
 use Rattle.np_model.specs.Decoding.{Partial, front}
@@ -11,16 +10,15 @@ use Rattle.np_model.specs.Side.{SideState}
 use Rattle.np_model.specs.PagePlan.{PageControl}
 use Rattle.np_model.specs.HostRun.{IsAwaiting}
 use Rattle.np_ports.specs.Peer.{Known, took, gave, asked}
-use Rattle.np_host_end.specs.HostEnd.{EndState, StandsFor, HasLeft, IsRefusal, Keeps, RestsAs, total_of}
+use Rattle.np_host_end.specs.HostEnd.{EndState, StandsFor, HasLeft, IsRefusal, RestsAs, total_of}
 use Rattle.np_host_end.specs.declared.host_end.State.{State}
 use Rattle.np_host_end.specs.declared.host_end.State.TheVariants.{Waiting, Finished, Refused}
 use Rattle.np_host.specs.declared.ending.Ending.{Ending}
 use Rattle.np_host.specs.declared.ending.Ending.TheVariants as endings
 use Rattle.np_prefix.specs.Alone.{ComesTo, WaitsAt, EndsAt, RefusesAt, too_many_bytes}
-use Rattle.np_host.specs.Session.{ReadsWell, Exchanged, BeginsWith}
-use Rattle.np_host.specs.Causes.{Adds}
-use Rattle.np_host.specs.Flow.{Printed, SentAll, SentPart, Sent, HeardBytes, HeardEnd, HeardFault}
-use Rattle.np_host.specs.Live.{Live, Going, Waits, HasFinished, Ends, AtEnding, After, Turned, HeardOn, Ran}
+use Rattle.np_host.specs.Session.{ReadsWell, Exchanged}
+use Rattle.np_host.specs.Flow.{SentAll, SentPart, Sent}
+use Rattle.np_host.specs.Live.{Live, Going, Waits, HasFinished, AtEnding, After, Turned, HeardOn, Ran}
 
 -- ---- reads
 

@@ -1,23 +1,19 @@
 -- From the page alone to the one process.
-use Rattle.std.proofs.Common.{◌≡◌, ℕ, zero, suc, ◌+◌, ◌-◌, ◌*◌, ◌^◌, ◌<◌, ◌≤◌, List, [], ◌∷◌, ◌++◌, length, take, drop, Bool, true, false, cond, Option, Some, None, refl, sym, ap, subst, ◌∙◌, append_assoc, arith, ◌⊎◌, inl, inr}
+use Rattle.std.proofs.Common.{◌≡◌, ℕ, ◌-◌, ◌≤◌, List, [], ◌∷◌, ◌++◌, length, take, drop, Option, Some, None, sym, ap, subst, ◌∙◌, append_assoc, arith, inl, inr}
 use Rattle.std.specs.List.{AllByRecursion}
 use Rattle.std.proofs.lemmas.List.{take-append-drop, append_cancel_left}
 use Rattle.np_model.specs.declared.script.Page.{Page}
-use Rattle.np_model.specs.declared.refusal.Refusal.{Refusal}
-use Rattle.np_model.specs.Script.{page_of}
 use Rattle.np_model.specs.Encoding.{encodings}
-use Rattle.np_model.specs.Side.{SideState}
-use Rattle.np_model.specs.PagePlan.{PageControl}
 use Rattle.np_model.specs.PluginPlan.{Plugin}
-use Rattle.np_model.specs.HostRun.{HostRests, GoesOnLost, IsAwaiting, IsPluginText}
+use Rattle.np_model.specs.HostRun.{IsPluginText}
 use Rattle.np_ports.specs.Peer.{Known, started}
 use Rattle.np_ports.specs.Files.{Contents}
-use Rattle.np_prefix.specs.Alone.{ComesTo, WaitsAt, EndsAt, RefusesAt}
-use Rattle.np_prefix.specs.Prefix.{IsWhole, WaitsLaw, EndsLaw, NeverRefusesLaw, FewBytesLaw}
+use Rattle.np_prefix.specs.Alone.{WaitsAt, EndsAt, RefusesAt}
+use Rattle.np_prefix.specs.Prefix.{WaitsLaw, EndsLaw, NeverRefusesLaw, FewBytesLaw}
 use Rattle.np_host.specs.declared.ending.Ending.{Ending}
 use Rattle.np_host.specs.declared.ending.Ending.TheVariants as endings
 use Rattle.np_host.specs.Words.{RunWords, run_words}
-use Rattle.np_host.specs.Session.{ReadsWell, Exchanged, BeginsWith, Completed, PeerEnded, PipeFailed, PeerRefused}
+use Rattle.np_host.specs.Session.{ReadsWell, Exchanged, Completed, PeerEnded, PipeFailed, PeerRefused}
 use Rattle.np_host.specs.Closing.{OutcomeOf, status_of, IsRunStatus}
 use Rattle.np_host.specs.Host.{OfWords, RunsPage, RunsWords}
 use Rattle.np_host.specs.Main.{ReadFollows, FollowsExchange, HostDone, HostLost, HostBroken, HostRefused, FollowsPage, FollowsWords}

@@ -1,6 +1,6 @@
 -- From the bytes of a file to its page.
-use Rattle.std.proofs.Common.{◌≡◌, ◌≢◌, ℕ, ◌<◌, ◌≤◌, List, length, take, Bool, true, false, cond, Option, Some, None, Result, Ok, Err, refl, sym, ap, subst, ◌∙◌, arith, ◌⊎◌, inl, inr}
-use Rattle.std.specs.Prelude.{nat_lt, OnOk, IfOk}
+use Rattle.std.proofs.Common.{◌≡◌, ℕ, ◌<◌, List, length, take, Bool, true, false, cond, Option, Some, None, Result, Ok, Err, refl, sym, ap, subst, ◌∙◌, arith, inl, inr}
+use Rattle.std.specs.Prelude.{nat_lt, IfOk}
 use Rattle.std.proofs.lemmas.Bool.{cases_lt}
 use Rattle.std.proofs.lemmas.Bool.Decides.{nat_tests}
 use Rattle.std.proofs.lemmas.List.{take_all, length-take-le}
@@ -9,9 +9,8 @@ use Rattle.np_model.specs.Script.{page_of, page_in}
 use Rattle.np_ports.specs.Peer.{Known, Starts, started}
 use Rattle.np_ports.specs.Files.{Contents}
 use Rattle.np_host.specs.declared.stop.Stop.{Stop}
-use Rattle.np_host.specs.declared.ending.Ending.{Ending}
 use Rattle.np_host.specs.Host.{RunsPage, IsNoPage, OnlyNoPage}
-use Rattle.np_host.specs.Closing.{SessionOutcome, OutcomeOf, status_of, IsRunStatus}
+use Rattle.np_host.specs.Closing.{SessionOutcome, IsRunStatus}
 
 too-long : (bytes : List ℕ) → 1048576 < length bytes → page_of bytes ≡ None
 unfolding page_of

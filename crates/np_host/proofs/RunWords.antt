@@ -1,13 +1,11 @@
 -- From the plain words to what is run.
-use Rattle.std.proofs.Common.{◌≡◌, ℕ, ◌≤◌, List, [], ◌∷◌, length, drop, map, get_or, leb, Bool, true, false, cond, Option, Some, None, refl, sym, ap, subst, ◌∙◌, arith}
+use Rattle.std.proofs.Common.{◌≡◌, ℕ, ◌≤◌, List, [], ◌∷◌, length, drop, get_or, Option, Some, sym, ap, subst, ◌∙◌, arith}
 use Rattle.std.specs.Prelude.{String, string_bytes}
 use Rattle.std.specs.Global.{Global}
 use Rattle.std.proofs.lemmas.Bool.{le-leb}
 use Rattle.std.proofs.lemmas.List.{length-map}
-use Rattle.np_ports.specs.Peer.{Known}
-use Rattle.np_ports.specs.Files.{Contents}
 use Rattle.np_host.specs.Words.{RunWords, texts, run_of, run_words, IsRun}
-use Rattle.np_host.specs.Host.{RunsPage, RunsWords, NotStarted, NotStartedWords, OfWords}
+use Rattle.np_host.specs.Host.{OfWords}
 
 run-is : (plain : List (String Global)) (first : String Global) → 2 ≤ length plain → length plain ≤ 18 → first ≡ get_or plain 0 first → run_of (texts plain) ≡ Some (record { page = string_bytes first; program = texts (drop 1 plain) })
 run-is [] first some few is = absurd (omega arith)

@@ -1,5 +1,5 @@
 -- What is printed after the exchange with a peer, and the status of a session.
-use Rattle.std.specs.Prelude.{◌≡◌, ℕ, ◌≤◌, List, [], ◌++◌, ◌⊎◌, Bool, true, Option, Some, None, Result, Ok, Err}
+use Rattle.std.specs.Prelude.{◌≡◌, ℕ, ◌≤◌, List, ◌++◌, ◌⊎◌, Bool, true, Option, Some, Result, Ok, Err}
 use Rattle.np_model.specs.declared.script.Page.{Page}
 use Rattle.np_model.specs.Side.{SideState}
 use Rattle.np_model.specs.PagePlan.{PageControl}
@@ -11,7 +11,7 @@ use Rattle.np_host.specs.declared.ending.Ending.{Ending}
 use Rattle.np_host.specs.declared.ending.Ending.TheVariants.{Done, Unsent, Ended, Failed, Refused}
 use Rattle.np_host.specs.declared.stop.Stop.{Stop}
 use Rattle.np_host.specs.Session.{Completed, PeerEnded, PipeFailed, PeerRefused}
-use Rattle.np_host.specs.Live.{Going, AtEnding, Turned}
+use Rattle.np_host.specs.Live.{AtEnding, Turned}
 
 -- the exchange came to its ending
 abbrev pub Talked : Option Known → Option Known → Option (List ℕ) → Option (List ℕ) → EndState → EndState → Ending → Type 0

@@ -1,5 +1,5 @@
 -- What carrying bytes between an end and its environment does.
-use Rattle.std.specs.Prelude.{◌≡◌, ℕ, ◌+◌, ◌≤◌, ◌<◌, ◌⊎◌, List, [], ◌++◌, length, take, Bool, true, false, Option, Some, None, Result, Ok, Err}
+use Rattle.std.specs.Prelude.{◌≡◌, ℕ, ◌≤◌, ◌<◌, ◌⊎◌, List, [], ◌++◌, length, take, Bool, true, false, Option, Some, Result, Ok, Err}
 use Rattle.np_values.specs.declared.memory.NoMemory.{NoMemory}
 use Rattle.np_model.specs.declared.script.Page.{Page}
 use Rattle.np_model.specs.Side.{SideState}

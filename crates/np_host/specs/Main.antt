@@ -1,5 +1,5 @@
 -- The main theorem: what the host did is what the one process does.
-use Rattle.std.specs.Prelude.{◌≡◌, ℕ, ◌-◌, List, ◌++◌, ◌⊎◌, length, take, Option, Some, None}
+use Rattle.std.specs.Prelude.{◌≡◌, ℕ, ◌-◌, List, ◌++◌, ◌⊎◌, length, take, Option, Some}
 use Rattle.std.specs.List.{AllByRecursion}
 use Rattle.np_model.specs.declared.script.Page.{Page}
 use Rattle.np_model.specs.declared.page.Stage.TheVariants.{Ended}
@@ -13,7 +13,7 @@ use Rattle.np_model.specs.Journal.{end_line}
 use Rattle.np_ports.specs.Peer.{Known, started}
 use Rattle.np_ports.specs.Files.{Contents}
 use Rattle.np_prefix.specs.Prefix.{IsWhole}
-use Rattle.np_host.specs.Words.{RunWords, run_words}
+use Rattle.np_host.specs.Words.{run_words}
 use Rattle.np_host.specs.Session.{BeginsWith}
 use Rattle.np_host.specs.Host.{OfWords}
 

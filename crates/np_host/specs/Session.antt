@@ -1,17 +1,15 @@
 -- A page over a peer and a sink that tell their calls: what a whole session of one side alone did.
-use Rattle.std.specs.Prelude.{◌≡◌, ℕ, ◌-◌, ◌≤◌, List, [], ◌∷◌, ◌++◌, ◌⊎◌, length, take, Option, Some, None}
+use Rattle.std.specs.Prelude.{◌≡◌, ℕ, ◌-◌, ◌≤◌, List, ◌++◌, ◌⊎◌, length, take, Option, Some}
 use Rattle.std.specs.List.{AllByRecursion}
 use Rattle.np_model.specs.declared.script.Page.{Page}
-use Rattle.np_model.specs.declared.page.Stage.TheVariants.{Ended}
 use Rattle.np_model.specs.declared.refusal.Refusal.{Refusal}
 use Rattle.np_model.specs.Encoding.{encodings}
-use Rattle.np_model.specs.Decoding.{Partial, front}
 use Rattle.np_model.specs.Side.{SideState}
 use Rattle.np_model.specs.PagePlan.{PageControl}
-use Rattle.np_model.specs.HostRun.{IsAwaiting, GoesOnLost}
+use Rattle.np_model.specs.HostRun.{GoesOnLost}
 use Rattle.np_model.specs.Journal.{end_line, refused_line}
 use Rattle.np_ports.specs.Peer.{Known}
-use Rattle.np_prefix.specs.Alone.{ComesTo, WaitsAt, EndsAt, RefusesAt}
+use Rattle.np_prefix.specs.Alone.{WaitsAt, EndsAt, RefusesAt}
 
 -- At this read of a session in which the page got and sent these bytes in all, the page waited for a message that wasn't whole, and the peer had taken all its messages so far.
 pub record ReadsWell (page : Page) (old : Known) (got sent : List ℕ) (r : ℕ × ℕ) : Type 0 where

@@ -1,5 +1,5 @@
 -- The words of the host's command line. (This project's own.)
-use Rattle.std.specs.Prelude.{◌≡◌, ◌≤◌, map, String, string_bytes, ℕ, List, [], ◌∷◌, length, Bool, true, false, not, ◌&&◌, nat_le, ◌==◌, slice_index, bytes_eq, codes, if◌then◌else◌, Option, Some, None, option_map}
+use Rattle.std.specs.Prelude.{◌≡◌, ◌≤◌, map, String, string_bytes, ℕ, List, [], ◌∷◌, length, Bool, ◌&&◌, nat_le, ◌==◌, slice_index, bytes_eq, codes, if◌then◌else◌, Option, Some, None, option_map}
 use Rattle.std.specs.Global.{Vec, Global}
 
 abbrev pub texts : List (String Global) → List (List ℕ)

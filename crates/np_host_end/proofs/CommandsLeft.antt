@@ -1,6 +1,6 @@
 -- What holds of the commands that are left.
-use Rattle.std.proofs.Common.{◌≡◌, ℕ, suc, ◌+◌, ◌<◌, ◌≤◌, List, [], ◌∷◌, length, drop, get_or, leb, Bool, true, false, ◌&&◌, refl, ap, sym, ◌∙◌, subst, arith, add-one}
-use Rattle.std.proofs.lemmas.Bool.{leb-true, le-leb}
+use Rattle.std.proofs.Common.{◌≡◌, ℕ, ◌+◌, ◌<◌, ◌≤◌, List, [], ◌∷◌, length, drop, get_or, leb, Bool, true, false, ◌&&◌, refl, ap, sym, ◌∙◌, arith}
+use Rattle.std.proofs.lemmas.Bool.{leb-true}
 use Rattle.std.proofs.lemmas.List.{drop_more}
 use Rattle.np_model.specs.declared.script.Command.{Command}
 use Rattle.np_model.specs.declared.script.Command.TheVariants.{Create, Turn}

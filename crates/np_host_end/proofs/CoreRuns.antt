@@ -1,12 +1,10 @@
 -- How the private calls of an end carry on what it stands for.
-use Rattle.std.proofs.Common.{◌≡◌, ℕ, ◌+◌, ◌<◌, ◌≤◌, List, [], ◌∷◌, ◌++◌, length, Bool, true, false, Option, Some, None, refl, ap, sym, ◌∙◌, subst, arith, length-append, ◌⊎◌, inl, inr}
-use Rattle.np_values.specs.declared.memory.NoMemory.{NoMemory}
+use Rattle.std.proofs.Common.{◌≡◌, ℕ, ◌+◌, ◌<◌, ◌≤◌, List, length, false, Some, refl, ap, sym, ◌∙◌, subst, arith, length-append, ◌⊎◌, inl, inr}
 use Rattle.np_model.specs.declared.message.Message.{Message}
 use Rattle.np_model.specs.declared.page.Stage.{Stage}
-use Rattle.np_model.specs.declared.page.Stage.TheVariants.{Begin, Ready, Awaiting, Unanswered, Ended}
+use Rattle.np_model.specs.declared.page.Stage.TheVariants.{Begin, Ready, Awaiting, Unanswered}
 use Rattle.np_model.specs.declared.page.Outstanding.{Outstanding}
-use Rattle.np_model.specs.declared.refusal.Refusal.{Refusal}
-use Rattle.np_model.specs.Encoding.{encoding, body_of}
+use Rattle.np_model.specs.Encoding.{encoding}
 use Rattle.np_model.specs.Side.{Micro}
 use Rattle.np_model.specs.Run.{Meeting, Accepts, Refuses}
 use Rattle.np_model.specs.PagePlan.{PageControl, go_plan, meet_plan}
@@ -15,9 +13,9 @@ use Rattle.np_laws.specs.Laws.{MoreMessagesLaw}
 use Rattle.np_host_end.specs.declared.host_core.Core.{Core}
 use Rattle.np_host_end.specs.declared.host_end.State.{State}
 use Rattle.np_host_end.specs.declared.host_end.State.TheVariants.{Waiting, Finished, Refused}
-use Rattle.np_host_end.specs.Core.{control_of, Moves, MovesAs, IsActing, Listens, Waits, IsRefused, Listened}
-use Rattle.np_host_end.specs.HostEnd.{EndState, Keeps, RestsAs, seen, total_of}
-use Rattle.np_host_end.proofs.Measures.{weight, act-lighter, meet-lighter}
+use Rattle.np_host_end.specs.Core.{control_of, Moves, MovesAs, IsActing, Listens, Listened}
+use Rattle.np_host_end.specs.HostEnd.{EndState, Keeps, RestsAs, seen}
+use Rattle.np_host_end.proofs.Measures.{weight, meet-lighter}
 use Rattle.np_host_end.proofs.Stands.{EndMoves, Accepted, EndRefused, stands-acted, stands-met, stands-refused}
 use Rattle.np_host_end.proofs.LostEnds.{lost-acted, lost-never-awaits}
 

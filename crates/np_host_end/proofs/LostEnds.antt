@@ -1,11 +1,10 @@
 -- How an end goes on whose plug-in is lost.
-use Rattle.std.proofs.Common.{◌≡◌, ℕ, suc, List, [], ◌++◌, refl, ap, sym, ◌∙◌, subst}
+use Rattle.std.proofs.Common.{◌≡◌, ℕ, suc, List, [], refl, ap, sym, ◌∙◌, subst}
 use Rattle.np_model.specs.declared.script.Page.{Page}
 use Rattle.np_model.specs.declared.page.Stage.TheVariants.{Ended}
 use Rattle.np_model.specs.Side.{SideState, Micro, run_steps}
 use Rattle.np_model.specs.Run.{turn}
 use Rattle.np_model.specs.PagePlan.{PageControl, page_plans, go_plan, lose, peer_lost}
-use Rattle.np_model.specs.declared.refusal.Refusal.{Refusal}
 use Rattle.np_model.specs.HostRun.{IsAwaiting}
 use Rattle.np_host_end.specs.Core.{IsActing}
 use Rattle.np_host_end.specs.HostEnd.{EndState, StandsFor, StandsLost, IsUnrefused, Keeps, RestsAs}

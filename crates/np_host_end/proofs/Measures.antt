@@ -1,5 +1,5 @@
 -- Each step of a run makes what is left to do less.
-use Rattle.std.proofs.Common.{◌≡◌, ℕ, ◌+◌, ◌*◌, ◌<◌, ◌≤◌, List, [], ◌∷◌, ◌++◌, length, Bool, true, false, cond, Option, Some, None, refl, ap, sym, ◌∙◌, subst, arith, length-append}
+use Rattle.std.proofs.Common.{◌≡◌, ℕ, ◌+◌, ◌*◌, ◌<◌, ◌≤◌, List, [], ◌∷◌, length, Bool, true, false, cond, Option, Some, None, refl, ap, ◌∙◌, subst, arith}
 use Rattle.std.specs.Prelude.{position}
 use Rattle.np_values.specs.declared.error.NpError.{NpError}
 use Rattle.np_values.specs.declared.error.NpError.TheVariants.{NoError, IncompatibleVersion}
@@ -15,10 +15,9 @@ use Rattle.np_model.specs.declared.page.Stage.{Stage}
 use Rattle.np_model.specs.declared.page.Stage.TheVariants.{Begin, Ready, Awaiting, Unanswered, Ended}
 use Rattle.np_model.specs.declared.page.PeerState.{PeerState}
 use Rattle.np_model.specs.declared.page.PeerState.TheVariants.{Compatible, Incompatible, Lost}
-use Rattle.np_model.specs.Encoding.{encoding}
 use Rattle.np_model.specs.Side.{Micro}
 use Rattle.np_model.specs.Run.{Meeting, Accepts, Refuses}
-use Rattle.np_model.specs.PagePlan.{PageControl, go_plan, next_plan, end_plan, close_plan, create_plan, turn_plan, lost_plan, begun, is_live, meet_plan, meet_at, reply_plan, greeted, created, destroyed, is_reply, is_level_1, unmatched}
+use Rattle.np_model.specs.PagePlan.{PageControl, go_plan, next_plan, end_plan, close_plan, create_plan, turn_plan, lost_plan, begun, is_live, meet_plan, meet_at, reply_plan, greeted, created, destroyed, is_reply, is_level_1}
 use Rattle.np_host_end.specs.Steps.{control_after}
 use Rattle.np_host_end.specs.Core.{IsActing}
 

@@ -1,5 +1,5 @@
 -- What a turn of the page does, and that a page whose plug-in is lost makes no call.
-use Rattle.std.proofs.Common.{◌≡◌, ℕ, zero, suc, List, [], ◌∷◌, ◌++◌, length, drop, map, Option, Some, None, refl, ap, sym, ◌∙◌, subst}
+use Rattle.std.proofs.Common.{◌≡◌, ℕ, zero, suc, List, [], ◌∷◌, ◌++◌, length, drop, map, Some, refl, ap, sym, ◌∙◌, subst}
 use Rattle.std.proofs.lemmas.List.{map-append}
 use Rattle.np_model.specs.declared.script.Page.{Page}
 use Rattle.np_model.specs.declared.script.Command.{Command}
@@ -14,7 +14,7 @@ use Rattle.np_model.specs.declared.page.PeerState.TheVariants.{Lost}
 use Rattle.np_model.specs.declared.page.Phase.{Phase}
 use Rattle.np_model.specs.declared.page.Phase.TheVariants.{Dead}
 use Rattle.np_model.specs.Side.{SideState, Micro, run_steps, examine}
-use Rattle.np_model.specs.Run.{Pace, Acts, Awaits, HasEnded, Meeting, Accepts, first, meets, listens, turn_at, turn, endpoint_run}
+use Rattle.np_model.specs.Run.{Pace, Acts, Awaits, Accepts, first, meets, listens, turn_at, turn, endpoint_run}
 use Rattle.np_model.specs.PagePlan.{PageControl, page_plans, go_plan, next_plan, end_plan, create_plan, turn_plan, lost_plan, begun, pace_at, meet_plan, lose, peer_lost, unanswered}
 use Rattle.np_model.specs.HostRun.{IsAwaiting}
 use Rattle.np_host_end.specs.Steps.{control_after}

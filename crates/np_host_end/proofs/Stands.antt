@@ -4,7 +4,7 @@ use Rattle.np_model.specs.declared.script.Page.{Page}
 use Rattle.np_model.specs.declared.message.Message.{Message}
 use Rattle.np_model.specs.declared.refusal.Refusal.{Refusal}
 use Rattle.np_model.specs.Encoding.{encoding, encodings, KeepsFormat, IsTyped}
-use Rattle.np_model.specs.Decoding.{Front, front}
+use Rattle.np_model.specs.Decoding.{front}
 use Rattle.np_model.specs.Side.{SideState, Micro, run_steps, examine, at_start}
 use Rattle.np_model.specs.Run.{Accepts, turn, endpoint_run}
 use Rattle.np_model.specs.PagePlan.{PageControl, page_plans, page_start, go_plan, meet_plan}

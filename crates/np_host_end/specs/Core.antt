@@ -1,5 +1,5 @@
 -- What the private calls of a host end do.
-use Rattle.std.specs.Prelude.{◌≡◌, ℕ, ◌+◌, List, [], ◌∷◌, ◌++◌, length, drop, Bool, true, false, Option, Some, None}
+use Rattle.std.specs.Prelude.{◌≡◌, ◌+◌, List, ◌++◌, length, drop, Bool, true, false, Option, Some, None}
 use Rattle.np_model.specs.declared.page.Stage.{Stage}
 use Rattle.np_model.specs.declared.page.Stage.TheVariants.{Begin, Ready, Awaiting, Unanswered, Ended}
 use Rattle.np_model.specs.declared.page.Outstanding.{Outstanding}
@@ -9,7 +9,7 @@ use Rattle.np_model.specs.Encoding.{encoding, encodings, KeepsFormat, IsTyped}
 use Rattle.np_model.specs.Decoding.{Partial, front}
 use Rattle.np_model.specs.Side.{Micro}
 use Rattle.np_model.specs.Run.{Meeting, Accepts, Refuses}
-use Rattle.np_model.specs.PagePlan.{PageControl, meet_plan, reply_plan, unmatched}
+use Rattle.np_model.specs.PagePlan.{PageControl, go_plan, meet_plan, reply_plan, unmatched}
 use Rattle.np_host_end.specs.Steps.{control_after, sent_by, printed_by}
 use Rattle.np_host_end.specs.Refused.{RefusedFront}
 use Rattle.np_host_end.specs.declared.host_end.State.{State}
@@ -33,6 +33,10 @@ pub record Moves (old new : Core) (steps : List (Micro PageControl)) : Type 0 wh
   pub outgoing : new.outgoing.items ≡ old.outgoing.items ++ encodings (sent_by steps)
   pub journal : new.journal.items ≡ old.journal.items ++ printed_by steps
   pub page : new.page ≡ old.page
+
+-- the page did what is due where it doesn't wait
+abbrev pub GoesOn : Core → Core → Type 0
+GoesOn old new = Moves old new (go_plan old.page (control_of old) old.stage)
 
 -- a message was accepted, and the steps of its plan were done
 abbrev pub MovesAs : Core → Core → Meeting PageControl → Type 0

@@ -1,17 +1,14 @@
 -- What a host end stands for: the page's side alone, with the messages that came whole so far.
-use Rattle.std.specs.Prelude.{◌≡◌, ℕ, ◌+◌, List, [], ◌∷◌, ◌++◌, length, drop, Bool, true, false, Option, Some, None, Result, Ok, Err}
-use Rattle.np_values.specs.declared.memory.NoMemory.{NoMemory}
+use Rattle.std.specs.Prelude.{◌≡◌, ℕ, ◌+◌, List, [], ◌∷◌, ◌++◌, length, Bool, false}
 use Rattle.np_model.specs.declared.script.Page.{Page}
 use Rattle.np_model.specs.declared.message.Message.{Message}
-use Rattle.np_model.specs.declared.page.Stage.{Stage}
 use Rattle.np_model.specs.declared.page.Stage.TheVariants.{Ended}
-use Rattle.np_model.specs.declared.page.PeerState.TheVariants.{Lost}
 use Rattle.np_model.specs.declared.refusal.Refusal.{Refusal}
 use Rattle.np_model.specs.Encoding.{encodings, KeepsFormat, IsTyped}
-use Rattle.np_model.specs.Decoding.{Front, Partial, Whole, Bad, front}
+use Rattle.np_model.specs.Decoding.{Partial, front}
 use Rattle.np_model.specs.Side.{SideState, at_start}
-use Rattle.np_model.specs.Run.{Meeting, Accepts, Refuses, endpoint_run}
-use Rattle.np_model.specs.PagePlan.{PageControl, page_plans, page_start, meet_plan, lose}
+use Rattle.np_model.specs.Run.{endpoint_run}
+use Rattle.np_model.specs.PagePlan.{PageControl, page_plans, page_start, lose}
 use Rattle.np_model.specs.HostRun.{IsAwaiting}
 use Rattle.np_host_end.specs.declared.host_core.Core.{Core}
 use Rattle.np_host_end.specs.declared.host_end.State.{State}

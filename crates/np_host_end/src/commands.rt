@@ -10,13 +10,12 @@ use np_values::{NoMemory, NpError, Text};
 
 impl Core {
     ghost use Rattle.np_model.specs.declared.page.Stage.TheVariants.{Begin, Ready, Unanswered};
-    ghost use Rattle.np_model.specs.PagePlan.{go_plan, next_plan, lost_plan};
-    ghost use Rattle.np_host_end.specs.Core.{control_of, Moves, IsActing};
+    ghost use Rattle.np_host_end.specs.Core.{GoesOn, IsActing};
 
     /// What the page does where it doesn't wait.
     pub fn act(&mut self) -> Result<(), NoMemory>
         requires acting { IsActing self.old.stage }
-        ensures moves { OnOk result (Moves self.old self.new (go_plan self.old.page (control_of self.old) self.old.stage)) }
+        ensures moves { OnOk result (GoesOn self.old self.new) }
         ensures feed { self.new.feed ≡ self.old.feed }
     {
         match self.stage {
@@ -29,7 +28,7 @@ impl Core {
 
     fn greet(&mut self) -> Result<(), NoMemory>
         requires stage { self.old.stage ≡ Begin }
-        ensures moves { OnOk result (Moves self.old self.new (go_plan self.old.page (control_of self.old) self.old.stage)) }
+        ensures moves { OnOk result (GoesOn self.old self.new) }
         ensures feed { self.new.feed ≡ self.old.feed }
     {
         let page = &self.page;
@@ -48,7 +47,7 @@ impl Core {
     /// The line of a command whose reply never comes.
     fn leave(&mut self, call: Outstanding) -> Result<(), NoMemory>
         requires stage { self.old.stage ≡ Unanswered call }
-        ensures moves { OnOk result (Moves self.old self.new (go_plan self.old.page (control_of self.old) self.old.stage)) }
+        ensures moves { OnOk result (GoesOn self.old self.new) }
         ensures feed { self.new.feed ≡ self.old.feed }
     {
         match call {
@@ -71,7 +70,7 @@ impl Core {
 
     fn proceed(&mut self) -> Result<(), NoMemory>
         requires stage { self.old.stage ≡ Ready }
-        ensures moves { OnOk result (Moves self.old self.new (go_plan self.old.page (control_of self.old) self.old.stage)) }
+        ensures moves { OnOk result (GoesOn self.old self.new) }
         ensures feed { self.new.feed ≡ self.old.feed }
     {
         if self.next == self.page.commands.as_slice().len() {
@@ -83,7 +82,7 @@ impl Core {
     fn command(&mut self) -> Result<(), NoMemory>
         requires stage { self.old.stage ≡ Ready }
         requires more { self.old.next < length self.old.page.commands }
-        ensures moves { OnOk result (Moves self.old self.new (go_plan self.old.page (control_of self.old) self.old.stage)) }
+        ensures moves { OnOk result (GoesOn self.old self.new) }
         ensures feed { self.new.feed ≡ self.old.feed }
     {
         match &self.page.commands.as_slice()[self.next] {

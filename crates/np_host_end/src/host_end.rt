@@ -94,7 +94,8 @@ impl HostEnd {
     pub fn take(&mut self, bytes: &[u8]) -> Result<(), NoMemory>
         requires room { total_of self.old + length bytes.now ≤ 2 ^ 40 }
         ensures stands { OnOk result ((page : Page) (got sent printed : List ℕ) →
-            StandsFor page got sent printed self.old → StandsFor page (got ++ bytes.now) sent printed self.new) }
+            StandsFor page got sent printed self.old →
+            StandsFor page (got ++ bytes.now) sent printed self.new) }
         ensures lost { OnOk result ((page : Page) (p : SideState PageControl) (sent printed : List ℕ) →
             StandsLost page p sent printed self.old → StandsLost page p sent printed self.new) }
         ensures same { OnOk result (self.new ≡ record self.old { unread = self.old.unread ++ bytes.now }) }
@@ -118,9 +119,11 @@ impl HostEnd {
     pub fn sent(&mut self, n: usize)
         requires within { n ≤ length self.old.outgoing }
         ensures stands { (page : Page) (got sent printed : List ℕ) →
-            StandsFor page got sent printed self.old → StandsFor page got (sent ++ take n self.old.outgoing) printed self.new }
+            StandsFor page got sent printed self.old →
+            StandsFor page got (sent ++ take n self.old.outgoing) printed self.new }
         ensures lost { (page : Page) (p : SideState PageControl) (sent printed : List ℕ) →
-            StandsLost page p sent printed self.old → StandsLost page p (sent ++ take n self.old.outgoing) printed self.new }
+            StandsLost page p sent printed self.old →
+            StandsLost page p (sent ++ take n self.old.outgoing) printed self.new }
         ensures same { self.new ≡ record self.old { outgoing = drop n self.old.outgoing } }
     {
         cut_front(&mut self.core.outgoing, n);
@@ -130,9 +133,11 @@ impl HostEnd {
     pub fn printed(&mut self, n: usize)
         requires within { n ≤ length self.old.journal }
         ensures stands { (page : Page) (got sent printed : List ℕ) →
-            StandsFor page got sent printed self.old → StandsFor page got sent (printed ++ take n self.old.journal) self.new }
+            StandsFor page got sent printed self.old →
+            StandsFor page got sent (printed ++ take n self.old.journal) self.new }
         ensures lost { (page : Page) (p : SideState PageControl) (sent printed : List ℕ) →
-            StandsLost page p sent printed self.old → StandsLost page p sent (printed ++ take n self.old.journal) self.new }
+            StandsLost page p sent printed self.old →
+            StandsLost page p sent (printed ++ take n self.old.journal) self.new }
         ensures same { self.new ≡ record self.old { journal = drop n self.old.journal } }
     {
         cut_front(&mut self.core.journal, n);
@@ -145,18 +150,19 @@ impl HostEnd {
         ensures rests { IfOk result (λ state. RestsAs self.new state) }
 
         // A page whose plug-in is lost waits for nothing.
-        ensures lost { IfOk result (λ state. (page : Page) (p : SideState PageControl) (sent printed : List ℕ) →
+        ensures lost { IfOk result (λ state.
+            (page : Page) (p : SideState PageControl) (sent printed : List ℕ) →
             StandsLost page p sent printed self.old → self.new.control.stage ≡ Ended) }
         ensures total { OnOk result (total_of self.new ≡ total_of self.old) }
         ensures failed { OnOk result (self.new.failed ≡ false) }
         ensures err { OnErr result (self.new.failed ≡ true) }
         ensures state { OnErr result (self.new.state ≡ self.old.state) }
 
-        // Both endings are answered again from then on, and nothing changes.
+        // Want of memory and a refusal are answered again from then on, and nothing changes.
         ensures again { self.old.failed ≡ true → OnOk result ⊥ }
         ensures stays { self.old.failed ≡ true → self.new ≡ self.old }
-        ensures refused { (refusal : Refusal) → self.old.state ≡ Refused refusal → self.old.failed ≡ false →
-            (result ≡ Ok (Refused refusal)) × (self.new ≡ self.old) }
+        ensures refused { (refusal : Refusal) → self.old.state ≡ Refused refusal →
+            self.old.failed ≡ false → (result ≡ Ok (Refused refusal)) × (self.new ≡ self.old) }
     {
         if self.failed {
             return Err(NoMemory);
@@ -179,7 +185,8 @@ impl HostEnd {
     /// The plug-in is lost; the page goes on alone at the next run, without a message and a call. It may be
     /// called at any time, and again.
     pub fn gone(&mut self)
-        ensures lost { (page : Page) (got sent printed : List ℕ) → (old : StandsFor page got sent printed self.old) →
+        ensures lost { (page : Page) (got sent printed : List ℕ) →
+            (old : StandsFor page got sent printed self.old) →
             StandsLost page old.side sent printed self.new }
         ensures again { (page : Page) (p : SideState PageControl) (sent printed : List ℕ) →
             StandsLost page p sent printed self.old → StandsLost page p sent printed self.new }

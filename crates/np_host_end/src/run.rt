@@ -39,9 +39,11 @@ impl Core {
 
     /// Goes on until the page waits or has ended, or refuses a message.
     pub fn run(&mut self) -> Result<State, NoMemory>
-        ensures keeps { IfOk result (λ state. Keeps (seen self.old Waiting false) (seen self.new state false)) }
+        ensures keeps { IfOk result (λ state.
+            Keeps (seen self.old Waiting false) (seen self.new state false)) }
         ensures rests { IfOk result (λ state. RestsAs (seen self.new state false) state) }
-        ensures total { OnOk result (total_of (seen self.new Waiting false) ≡ total_of (seen self.old Waiting false)) }
+        ensures total { OnOk result (total_of (seen self.new Waiting false) ≡
+            total_of (seen self.old Waiting false)) }
     {
         more_messages_law();
         loop {
@@ -61,7 +63,8 @@ impl Core {
     fn listen(&mut self, call: Outstanding) -> Result<Option<State>, NoMemory>
         requires stage { self.old.stage ≡ Awaiting call }
         ensures listened { IfOk result (λ halt. Listened self.old self.new halt) }
-        ensures total { OnOk result (total_of (seen self.new Waiting false) ≡ total_of (seen self.old Waiting false)) }
+        ensures total { OnOk result (total_of (seen self.new Waiting false) ≡
+            total_of (seen self.old Waiting false)) }
     {
         let at = self.feed.consumed();
         match self.feed.next() {

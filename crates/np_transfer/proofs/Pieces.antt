@@ -1,6 +1,6 @@
 -- Reading a file piece by piece.
-use Rattle.std.proofs.Common.{rules, ◌≡◌, ℕ, zero, suc, zero-add, ◌+◌, ◌≤◌, List, [], ◌∷◌, ◌++◌, length, take, drop, refl, ap, sym, ◌∙◌, arith, Option, Some, Result, Ok, Err, subst}
-use Rattle.std.proofs.lemmas.List.{length-append, length-take, length-take-le, take_all, same_lists, places}
+use Rattle.std.proofs.Common.{rules, ◌≡◌, ℕ, zero, suc, zero-add, ◌+◌, ◌≤◌, List, [], ◌∷◌, ◌++◌, length, take, drop, refl, ap, sym, ◌∙◌, arith, Option, Some, Ok, Err, subst}
+use Rattle.std.proofs.lemmas.List.{length-append, length-take-le, take_all, same_lists, places}
 use Rattle.np_ports.specs.Files.{Contents, ReadsFile, NotesFailure}
 use Rattle.np_ports.specs.declared.file_call.FileCall.{FileCall}
 use Rattle.np_ports.specs.declared.file_call.FileCall.TheVariants.{Read}

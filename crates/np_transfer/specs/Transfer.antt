@@ -1,5 +1,5 @@
 -- What whole transfers do.
-use Rattle.std.specs.Prelude.{◌≡◌, ℕ, List, [], ◌∷◌, ◌++◌, take, Option, Some, None, Result, Ok, Err}
+use Rattle.std.specs.Prelude.{◌≡◌, ℕ, List, [], ◌∷◌, ◌++◌, take, Option, Some, Result, Ok, Err}
 use Rattle.std.specs.Global.{Vec}
 use Rattle.np_ports.specs.declared.error.PortError.{PortError}
 use Rattle.np_ports.specs.declared.error.PortError.TheVariants.{Failed, NoMemory}

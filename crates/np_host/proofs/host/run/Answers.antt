@@ -1,4 +1,4 @@
-use Rattle.std.proofs.Common.{◌≡◌, Result, Err, ap}
+use Rattle.std.proofs.Common.{Result, Err, ap}
 use Rattle.np_script.specs.declared.error.ParseError.{ParseError}
 use Rattle.np_model.specs.declared.script.Page.{Page}
 use Rattle.np_host.proofs.Pages.{no-page, only-page, runs, ran-not, on-each, if-then}

@@ -1,4 +1,4 @@
-use Rattle.std.proofs.Common.{◌≡◌, Option, Some, None, subst, ◌∙◌, arith}
+use Rattle.std.proofs.Common.{Option, Some, None, subst, ◌∙◌, arith}
 use Rattle.np_host.specs.declared.ending.Ending.{Ending}
 use Rattle.np_host.specs.Live.{Turned}
 use Rattle.np_host.proofs.Closings.{turned-then}

@@ -1,7 +1,6 @@
-use Rattle.std.proofs.Common.{◌≡◌, ◌∙◌, sym, ◌^◌}
-use Rattle.np_host_end.specs.declared.host_end.State.TheVariants.{Refused, Finished}
+use Rattle.std.proofs.Common.{◌≡◌, ◌∙◌, ◌^◌}
 use Rattle.np_host_end.specs.HostEnd.{total_of}
-use Rattle.np_host.proofs.Exchanges.{going-ran, ending-refused, TurnSent, turned-done, turned-unsent, turned-failed, listening, turned-full, turned-heard}
+use Rattle.np_host.proofs.Exchanges.{going-ran, ending-refused, turned-done, turned-unsent, turned-failed, listening, turned-full, turned-heard}
 use Rattle.np_host.proofs.turn.turn.Goals as goal
 
 pub returns-in-Refused-clause-turned : goal.returns-in-Refused-clause-turned

@@ -1,4 +1,4 @@
-use Rattle.std.proofs.Common.{◌≡◌, ◌≤◌, ◌++◌, ◌+◌, ℕ, List, length, take, drop, Some, arith, rules}
+use Rattle.std.proofs.Common.{arith}
 use Rattle.std.proofs.lemmas.Grind.{common_steps}
 use Rattle.np_transfer.proofs.Pieces.{more_read, all_read, full_read, known_read, kept_read, no_failure}
 use Rattle.np_transfer.proofs.reading.read_script.Goals as goal

@@ -1,4 +1,4 @@
-use Rattle.std.proofs.Common.{◌≡◌, ◌++◌, ◌-◌, ◌≤◌, ℕ, List, length, take, Some}
+use Rattle.std.proofs.Common.{◌≡◌, ◌-◌, ◌≤◌, ℕ, List, length, take, Some}
 use Rattle.np_ports.specs.Files.{Contents}
 use Rattle.np_ports.specs.declared.file_call.FileCall.{FileCall}
 use Rattle.np_transfer.proofs.reading.read_script.Given as goal

@@ -1,4 +1,4 @@
-use Rattle.std.proofs.Common.{◌≡◌, ◌<◌, ◌≤◌, ◌+◌, length, refl, ap, arith, rules}
+use Rattle.std.proofs.Common.{length, ap, arith}
 use Rattle.np_host_end.proofs.CommandsLeft.{next_create}
 use Rattle.np_host_end.proofs.host_core.Core.command.Goals as goal
 

@@ -1,4 +1,4 @@
-use Rattle.std.proofs.Common.{◌≡◌, ℕ, ◌+◌, length, Option, Some, None, ap, subst, sym, ◌∙◌}
+use Rattle.std.proofs.Common.{◌+◌, length, Option, ap, subst, ◌∙◌}
 use Rattle.np_wire.specs.Feed.{Fed}
 use Rattle.np_host_end.specs.Core.{Listened, control_of}
 use Rattle.np_host_end.specs.declared.host_end.State.{State}

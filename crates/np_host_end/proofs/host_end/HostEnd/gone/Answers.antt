@@ -1,6 +1,6 @@
-use Rattle.std.proofs.Common.{◌≡◌, ◌∙◌, ap, sym, subst, false, Bool}
-use Rattle.np_host_end.specs.HostEnd.{EndState, StandsFor, StandsLost}
-use Rattle.np_host_end.proofs.LostEnds.{gone_from, stands-gone, lost-gone}
+use Rattle.std.proofs.Common.{subst}
+use Rattle.np_host_end.specs.HostEnd.{EndState, StandsLost}
+use Rattle.np_host_end.proofs.LostEnds.{stands-gone, lost-gone}
 use Rattle.np_host_end.proofs.host_end.HostEnd.gone.Goals as goal
 
 pub returns-clause-lost : goal.returns-clause-lost

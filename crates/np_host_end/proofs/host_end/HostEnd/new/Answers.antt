@@ -1,4 +1,4 @@
-use Rattle.std.proofs.Common.{◌≡◌, ℕ, List, [], refl, sym, ap}
+use Rattle.std.proofs.Common.{[], refl, sym, ap}
 use Rattle.np_model.specs.Side.{at_start}
 use Rattle.np_model.specs.PagePlan.{page_start}
 use Rattle.np_wire.specs.Feed.{Fed}

@@ -1,4 +1,4 @@
-use Rattle.std.proofs.Common.{◌≡◌, sym, subst, true, false}
+use Rattle.std.proofs.Common.{sym, subst, false}
 use Rattle.np_host_end.specs.HostEnd.{EndState, StandsLost, seen}
 use Rattle.np_host_end.specs.declared.host_end.State.TheVariants.{Waiting}
 use Rattle.np_host_end.proofs.LostEnds.{lost-ends}

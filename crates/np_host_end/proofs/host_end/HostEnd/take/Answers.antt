@@ -1,4 +1,4 @@
-use Rattle.std.proofs.Common.{◌≡◌, ap, sym, ◌∙◌, subst, ◌++◌}
+use Rattle.std.proofs.Common.{◌≡◌, ap, sym, subst, ◌++◌}
 use Rattle.np_wire.specs.Feed.{Fed}
 use Rattle.np_host_end.specs.HostEnd.{EndState, StandsFor, seen}
 use Rattle.np_host_end.proofs.Stands.{stands-took}
