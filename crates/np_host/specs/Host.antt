@@ -69,3 +69,7 @@ NotesScriptOnly words old new = OfWords (run_words words) (λ r. NotesPageOnly r
 -- want of memory, or the output failed
 abbrev pub IsCutShort : ℕ → Type 0
 IsCutShort status = (status ≡ 8) ⊎ (status ≡ 10)
+
+-- the statuses of a run that printed its end line
+abbrev pub IsEndStatus : ℕ → Type 0
+IsEndStatus status = ((status ≡ 2) ⊎ ((status ≡ 3) ⊎ ((status ≡ 4) ⊎ (status ≡ 11)))) ⊎ IsRunStatus status

@@ -4,7 +4,7 @@ ghost use Rattle.std.specs.Prelude.{◌≡◌, ◌<◌, ◌⊎◌, ◌↔◌, �
 ghost use Rattle.np_model.specs.Script.{page_of};
 ghost use Rattle.np_ports.specs.Causes.{Rose};
 ghost use Rattle.np_host.specs.Words.{run_words as run_of_words, texts};
-ghost use Rattle.np_host.specs.Host.{RunsPage, StopsEarly, NotStarted, IsNoPage, OnlyNoPage, KeepsFiles, NotesPageOnly, RunsWords, NotStartedWords, IsNoScript, OnlyNoScript, NotesScriptOnly, IsCutShort};
+ghost use Rattle.np_host.specs.Host.{RunsPage, StopsEarly, NotStarted, IsNoPage, OnlyNoPage, KeepsFiles, NotesPageOnly, RunsWords, NotStartedWords, IsNoScript, OnlyNoScript, NotesScriptOnly, IsCutShort, IsEndStatus};
 ghost use Rattle.np_host.specs.Causes.{SinkCause};
 ghost use Rattle.np_host.specs.Main.{FollowsWords, HostDone, HostLost, HostBroken, HostRefused};
 
@@ -33,6 +33,7 @@ fn run<P: Peer, F: Files, O: Sink>(
     ensures not_started { IfOk result (λ status. NotStarted (texts program.now) (P.known peer.old) (P.known peer.new) (O.taken out.old) (O.taken out.new) status) }
     ensures script { IfOk result (λ status. status ≡ 3 → IsNoPage name.now (F.contents files.old)) }
     ensures script_only { IfOk result (λ status. OnlyNoPage name.now (F.contents files.old) status) }
+    ensures listed { IfOk result (λ status. IsEndStatus status) }
     ensures usage { IfOk result (λ status. status ≢ 2) }
     ensures output { IfOk result (λ status. status ≢ 10) }
     ensures file { IfOk result (λ status. status ≡ 4 → Rose (F.faults files.old) (F.faults files.new)) }
@@ -75,6 +76,7 @@ fn serve<P: Peer, F: Files, O: Sink>(
     ensures script { IfOk result (λ status. status ≡ 3 → IsNoScript (texts words.now) (F.contents files.old)) }
     ensures script_only { IfOk result (λ status. OnlyNoScript (texts words.now) (F.contents files.old) status) }
     ensures output { IfOk result (λ status. status ≢ 10) }
+    ensures listed { IfOk result (λ status. IsEndStatus status) }
     ensures usage { IfOk result (λ status. (status ≡ 2) ↔ (run_of_words (texts words.now) ≡ None)) }
     ensures file { IfOk result (λ status. status ≡ 4 → Rose (F.faults files.old) (F.faults files.new)) }
     ensures start { IfOk result (λ status. status ≡ 11 → Rose (P.start_faults peer.old) (P.start_faults peer.new)) }
@@ -117,7 +119,8 @@ pub fn host_main<P: Peer, F: Files, O: Sink>(
     ensures early { StopsEarly (P.known peer.old) (P.known peer.new) (O.taken out.old) (O.taken out.new) result }
     ensures not_started { NotStartedWords (texts words.now) (P.known peer.old) (P.known peer.new) (O.taken out.old) (O.taken out.new) result }
 
-    // The cause of each status.
+    // The statuses, and the cause of each.
+    ensures listed { IsEndStatus result ⊎ IsCutShort result }
     ensures usage { result ≡ 2 → run_of_words (texts words.now) ≡ None }
     ensures usage_only { run_of_words (texts words.now) ≡ None → (result ≡ 2) ⊎ IsCutShort result }
     ensures script { result ≡ 3 → IsNoScript (texts words.now) (F.contents files.old) }
