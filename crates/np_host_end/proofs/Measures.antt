@@ -18,7 +18,7 @@ use Rattle.np_model.specs.declared.page.PeerState.TheVariants.{Compatible, Incom
 use Rattle.np_model.specs.Side.{Micro}
 use Rattle.np_model.specs.Run.{Meeting, Accepts, Refuses}
 use Rattle.np_model.specs.PagePlan.{PageControl, go_plan, next_plan, end_plan, close_plan, create_plan, turn_plan, lost_plan, begun, is_live, meet_plan, meet_at, reply_plan, greeted, created, destroyed, is_reply, is_level_1}
-use Rattle.np_host_end.specs.Steps.{control_after}
+use Rattle.np_model.specs.Steps.{control_after}
 use Rattle.np_host_end.specs.Core.{IsActing}
 
 abbrev pub stage_weight : Stage → ℕ

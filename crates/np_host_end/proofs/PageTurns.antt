@@ -17,7 +17,7 @@ use Rattle.np_model.specs.Side.{SideState, Micro, run_steps, examine}
 use Rattle.np_model.specs.Run.{Pace, Acts, Awaits, Accepts, first, meets, listens, turn_at, turn, endpoint_run}
 use Rattle.np_model.specs.PagePlan.{PageControl, page_plans, go_plan, next_plan, end_plan, create_plan, turn_plan, lost_plan, begun, pace_at, meet_plan, lose, peer_lost, unanswered}
 use Rattle.np_model.specs.HostRun.{IsAwaiting}
-use Rattle.np_host_end.specs.Steps.{control_after}
+use Rattle.np_model.specs.Steps.{control_after}
 use Rattle.np_host_end.specs.Core.{IsActing}
 use Rattle.np_host_end.proofs.StepLemmas.{run-control}
 

@@ -10,10 +10,12 @@ use Rattle.np_model.specs.Run.{Accepts, turn, endpoint_run}
 use Rattle.np_model.specs.PagePlan.{PageControl, page_plans, page_start, go_plan, meet_plan}
 use Rattle.np_model.specs.HostRun.{IsAwaiting}
 use Rattle.np_laws.specs.Laws.{MoreMessagesLaw}
-use Rattle.np_host_end.specs.Steps.{control_after, sent_by, printed_by}
+use Rattle.np_model.specs.Steps.{control_after, sent_by, printed_by}
 use Rattle.np_host_end.specs.Core.{IsActing}
-use Rattle.np_host_end.specs.Refused.{RefusedFront}
-use Rattle.np_host_end.specs.HostEnd.{EndState, StandsFor, AreMessages, HasLeft, IsRefusal}
+use Rattle.np_model.specs.HostRun.{RefusedFront}
+use Rattle.np_host_end.specs.HostEnd.{EndState, StandsFor, HasLeft}
+use Rattle.np_model.specs.Encoding.{AreMessages}
+use Rattle.np_model.specs.HostRun.{IsRefusal}
 use Rattle.np_host_end.specs.declared.host_end.State.{State}
 use Rattle.np_host_end.specs.declared.host_end.State.TheVariants.{Waiting, Finished, Refused}
 use Rattle.np_host_end.proofs.StepLemmas.{run-control, run-sent, run-journal, run-examined, encodings-append}

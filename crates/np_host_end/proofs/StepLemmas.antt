@@ -3,7 +3,7 @@ use Rattle.std.proofs.Common.{◌≡◌, ℕ, List, [], ◌∷◌, ◌++◌, ref
 use Rattle.np_model.specs.declared.message.Message.{Message}
 use Rattle.np_model.specs.Encoding.{encoding, encodings}
 use Rattle.np_model.specs.Side.{SideState, Micro, Control, Send, Deliver, Print, deliver, micro_step, run_steps}
-use Rattle.np_host_end.specs.Steps.{control_after, sent_by, printed_by}
+use Rattle.np_model.specs.Steps.{control_after, sent_by, printed_by}
 
 -- a delivery changes the two lists of deliveries alone
 pub record Delivered {C : Type 0} (p q : SideState C) : Type 0 where

@@ -10,8 +10,8 @@ use Rattle.np_model.specs.Decoding.{Partial, front}
 use Rattle.np_model.specs.Side.{Micro}
 use Rattle.np_model.specs.Run.{Meeting, Accepts, Refuses}
 use Rattle.np_model.specs.PagePlan.{PageControl, go_plan, meet_plan, reply_plan, unmatched}
-use Rattle.np_host_end.specs.Steps.{control_after, sent_by, printed_by}
-use Rattle.np_host_end.specs.Refused.{RefusedFront}
+use Rattle.np_model.specs.Steps.{control_after, sent_by, printed_by}
+use Rattle.np_model.specs.HostRun.{RefusedFront}
 use Rattle.np_host_end.specs.declared.host_end.State.{State}
 use Rattle.np_host_end.specs.declared.host_end.State.TheVariants.{Waiting, Finished, Refused}
 use Rattle.np_host_end.specs.declared.host_core.Core.{Core}

@@ -1,20 +1,17 @@
 -- What a host end stands for: the page's side alone, with the messages that came whole so far.
-use Rattle.std.specs.Prelude.{◌≡◌, ℕ, ◌+◌, List, [], ◌∷◌, ◌++◌, length, Bool, false}
+use Rattle.std.specs.Prelude.{◌≡◌, ℕ, ◌+◌, List, [], ◌++◌, length, Bool, false}
 use Rattle.np_model.specs.declared.script.Page.{Page}
-use Rattle.np_model.specs.declared.message.Message.{Message}
 use Rattle.np_model.specs.declared.page.Stage.TheVariants.{Ended}
-use Rattle.np_model.specs.declared.refusal.Refusal.{Refusal}
-use Rattle.np_model.specs.Encoding.{encodings, KeepsFormat, IsTyped}
+use Rattle.np_model.specs.Encoding.{encodings, AreMessages}
 use Rattle.np_model.specs.Decoding.{Partial, front}
 use Rattle.np_model.specs.Side.{SideState, at_start}
 use Rattle.np_model.specs.Run.{endpoint_run}
 use Rattle.np_model.specs.PagePlan.{PageControl, page_plans, page_start, lose}
-use Rattle.np_model.specs.HostRun.{IsAwaiting}
+use Rattle.np_model.specs.HostRun.{IsAwaiting, IsRefusal}
 use Rattle.np_host_end.specs.declared.host_core.Core.{Core}
 use Rattle.np_host_end.specs.declared.host_end.State.{State}
 use Rattle.np_host_end.specs.declared.host_end.State.TheVariants.{Waiting, Finished, Refused}
 use Rattle.np_host_end.specs.Core.{control_of}
-use Rattle.np_host_end.specs.Refused.{RefusedFront}
 
 -- What a caller sees of a host end: its page and where that stands, the bytes of messages that were not cut off by `sent`, those of the journal that were not cut off by `printed`, how many bytes it consumed, those that it did not, what `run` answered last, and whether memory ran out in an earlier call.
 pub record EndState : Type 0 where
@@ -57,22 +54,7 @@ end_start page = record {
 abbrev pub total_of : EndState → ℕ
 total_of e = e.consumed + length e.unread
 
--- ---- refusals
-
--- the page awaits a message and refuses what stands at the front of `left`
-pub record IsRefusal (c : PageControl) (at : ℕ) (left : List ℕ) (r : Refusal) : Type 0 where
-  pub awaits : IsAwaiting c.stage
-  pub read : List ℕ  -- the bytes that had come by then
-  pub later : List ℕ
-  pub left_is : left ≡ read ++ later
-  pub refused : RefusedFront c at r (front at read)
-
 -- ---- what an end stands for
-
--- each is a message of the wire format
-abbrev pub AreMessages : List Message → Type 0
-AreMessages [] = Unit {0}
-AreMessages (m ∷ messages) = (KeepsFormat m × IsTyped m.body) × AreMessages messages
 
 -- of the bytes that came, `left` stand behind the messages that were examined, which take up `at` bytes
 abbrev pub HasLeft : PageControl → State → ℕ → List ℕ → ℕ → List ℕ → Type 0

@@ -1,5 +1,3 @@
-pub mod Steps
-pub mod Refused
 pub mod Core
 pub mod HostEnd
 pub use Rattle.np_model.specs.Script
@@ -9,3 +7,5 @@ pub use Rattle.np_model.specs.Side
 pub use Rattle.np_model.specs.Run
 pub use Rattle.np_model.specs.PagePlan
 pub use Rattle.np_model.specs.HostRun
+pub use Rattle.np_model.specs.Steps
+pub use Rattle.np_model.specs.Refused

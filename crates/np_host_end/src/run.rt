@@ -2,7 +2,7 @@
 
 ghost use Rattle.std.specs.Prelude.{◌≡◌, OnOk, IfOk, false};
 ghost use Rattle.np_model.specs.declared.page.Stage.TheVariants.{Awaiting};
-ghost use Rattle.np_host_end.specs.Refused.{refusal_of, rule_of as rule_of_kind};
+ghost use Rattle.np_model.specs.Refused.{refusal_of, rule_of as rule_of_kind};
 
 use crate::host_core::Core;
 use crate::host_end::State;

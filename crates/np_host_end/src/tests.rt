@@ -1,4 +1,4 @@
-ghost use Rattle.std.specs.Prelude.{◌≡◌, ◌<◌, ◌≤◌, OnOk, IfOk, true};
+ghost use Rattle.std.specs.Prelude.{◌≡◌, ◌<◌, ◌≤◌, length, OnOk, IfOk, true};
 ghost use Rattle.np_model.specs.Script.{commands_fit};
 ghost use Rattle.np_host_end.specs.HostEnd.{total_of};
 
@@ -58,21 +58,58 @@ fn joined(alloc: Global, parts: &[&[u8]]) -> Result<Vec<u8>, Fail> {
     Ok(bytes)
 }
 
-// Cuts off what the end has made, at most so many bytes of each.
-fn carry_off(
-    end: &mut HostEnd,
-    most: usize,
-    outgoing: &mut Vec<u8>,
-    journal: &mut Vec<u8>,
-) -> Result<(), Fail>
+// What was carried off an end.
+#[derive(Drop)]
+struct Carried {
+    outgoing: Vec<u8>,
+    journal: Vec<u8>,
+}
+
+fn carry_outgoing(end: &mut HostEnd, most: usize, to: &mut Vec<u8>) -> Result<(), Fail>
     ensures { OnOk result (total_of end.new ≡ total_of end.old) }
 {
-    let n = end.outgoing().len().min(most);
-    outgoing.extend_from_slice(&end.outgoing()[..n])?;
+    let bytes = end.outgoing();
+    let n = bytes.len().min(most);
+    to.extend_from_slice(&bytes[..n])?;
     end.sent(n);
-    let n = end.journal().len().min(most);
-    journal.extend_from_slice(&end.journal()[..n])?;
+    Ok(())
+}
+
+fn carry_journal(end: &mut HostEnd, most: usize, to: &mut Vec<u8>) -> Result<(), Fail>
+    ensures { OnOk result (total_of end.new ≡ total_of end.old) }
+{
+    let bytes = end.journal();
+    let n = bytes.len().min(most);
+    to.extend_from_slice(&bytes[..n])?;
     end.printed(n);
+    Ok(())
+}
+
+// Cuts off what the end has made, at most so many bytes of each.
+fn carry_off(end: &mut HostEnd, most: usize, carried: &mut Carried) -> Result<(), Fail>
+    ensures { OnOk result (total_of end.new ≡ total_of end.old) }
+{
+    carry_outgoing(end, most, &mut carried.outgoing)?;
+    carry_journal(end, most, &mut carried.journal)
+}
+
+// Gives an end these bytes, in chunks of this size.
+fn give(end: &mut HostEnd, given: &[u8], size: usize, carried: &mut Carried) -> Result<(), Fail>
+    requires fresh { total_of end.old ≡ 0 }
+    requires some { 0 < size }
+    requires few { size ≤ 4096 }
+    requires short { length given.now ≤ 4096 }
+    ensures { OnOk result (total_of end.new ≡ length given.now) }
+{
+    end.run()?;
+    let mut at = 0;
+    while at < given.len() {
+        let behind = given.len().min(at + size);
+        end.take(&given[at..behind])?;
+        end.run()?;
+        carry_off(end, size, carried)?;
+        at = behind;
+    }
     Ok(())
 }
 
@@ -85,6 +122,19 @@ fn refused(at: u64, rule: Rule, first: u64, second: u64) -> State {
     })
 }
 
+// What was carried off is what the row says, and this is the journal.
+fn same_carried(
+    rt: &impl Abort,
+    alloc: Global,
+    row: &Row,
+    carried: &Carried,
+    journal: &[u8],
+) -> Result<(), Fail> {
+    assert_eq!(rt; carried.outgoing, joined(alloc, row.outgoing)?);
+    assert_eq!(rt; carried.journal.as_slice(), journal);
+    Ok(())
+}
+
 // Runs a row in chunks of this size.
 fn runs(rt: &impl Abort, alloc: Global, row: &Row, size: usize) -> Result<(), Fail>
     requires some { 0 < size }
@@ -92,30 +142,21 @@ fn runs(rt: &impl Abort, alloc: Global, row: &Row, size: usize) -> Result<(), Fa
 {
     let given = joined(alloc, row.given)?;
     assert!(rt; given.len() <= 4096);
-    let mut outgoing = Vec::new(alloc);
-    let mut journal = Vec::new(alloc);
+    let mut carried = Carried {
+        outgoing: Vec::new(alloc),
+        journal: Vec::new(alloc),
+    };
     let mut end = HostEnd::new(alloc, page(alloc)?)?;
-    end.run()?;
-    let mut at = 0;
-    while at < given.len() {
-        let behind = given.len().min(at + size);
-        end.take(&given[at..behind])?;
-        end.run()?;
-        carry_off(&mut end, size, &mut outgoing, &mut journal)?;
-        at = behind;
-    }
-    carry_off(&mut end, 4096, &mut outgoing, &mut journal)?;
+    give(&mut end, &given, size, &mut carried)?;
+    carry_off(&mut end, 4096, &mut carried)?;
     assert_eq!(rt; *end.state(), row.state);
     assert_eq!(rt; end.run()?, row.state);
-    assert_eq!(rt; outgoing, joined(alloc, row.outgoing)?);
-    assert_eq!(rt; journal.as_slice(), row.journal);
+    same_carried(rt, alloc, row, &carried, row.journal)?;
     end.gone();
     assert_eq!(rt; *end.state(), State::Waiting);
     assert_eq!(rt; end.run()?, State::Finished);
-    carry_off(&mut end, 4096, &mut outgoing, &mut journal)?;
-    assert_eq!(rt; outgoing, joined(alloc, row.outgoing)?);
-    assert_eq!(rt; journal.as_slice(), row.lost);
-    Ok(())
+    carry_off(&mut end, 4096, &mut carried)?;
+    same_carried(rt, alloc, row, &carried, row.lost)
 }
 
 #[test]

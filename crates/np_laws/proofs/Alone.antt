@@ -123,15 +123,21 @@ first-is : (l : List Message) (m : Message) → first l ≡ Some m → (rest : L
 first-is [] m e = cc
 first-is (x ∷ l) m e = (l, cc)
 
+-- the message that comes next stands behind those that were examined
+pub next-is : (examined got : List Message) (m : Message) → Extends examined got → first (drop (length examined) got) ≡ Some m → (later : List Message) × (got ≡ examined ++ m ∷ later)
+next-is examined got m f e =
+    let rest = first-is f.more m (ap first (sym (drop_at examined f.more (length examined) refl) ∙ ap (λ l. drop (length examined) l) (sym f.is)) ∙ e) in
+    (rest.0, f.is ∙ ap (λ l. examined ++ l) rest.1)
+
 -- the messages that a side examined are the first that came
 turn-examined : {C : Type 0} (S : Plans C) (got : List Message) (p : SideState C) → Extends p.examined got → Extends (turn S got p).examined got
 turn-examined S got p f = at (S.pace p)
   where
     met : (m : Message) → next_message got p ≡ Some m → (meeting : Meeting _) → Extends (meets p m meeting).examined got
     met m e (Accepts steps) =
-        let rest = first-is f.more m (ap first (sym (drop_at p.examined f.more (length p.examined) refl) ∙ ap (λ l. drop (length p.examined) l) (sym f.is)) ∙ e) in
-        let is : got ≡ p.examined ++ m ∷ [] ++ rest.0 = f.is ∙ ap (λ l. p.examined ++ l) rest.1 ∙ sym (append_assoc p.examined (m ∷ []) rest.0) in
-        subst (λ l. Extends l got) (sym (steps-examined steps (examine m p))) (record { more = rest.0; is = is })
+        let next = next-is p.examined got m f e in
+        let is : got ≡ p.examined ++ m ∷ [] ++ next.0 = next.1 ∙ sym (append_assoc p.examined (m ∷ []) next.0) in
+        subst (λ l. Extends l got) (sym (steps-examined steps (examine m p))) (record { more = next.0; is = is })
     met m e (Refuses rule first second) = f
 
     heard : (o : Option Message) → next_message got p ≡ o → Extends (listens S p o).examined got

@@ -84,6 +84,24 @@ cut-rests S k n lists open_lists states p rounds grow reached rest =
       enough = omega (arith, h, longer);
     }
 
+-- where a side rests in the run with a gate it rests alone with the messages that come through
+cut-alone : {C : Type 0} (S : Plans C) (k n m : ℕ) (lists open_lists : ℕ → List Message) (states : ℕ → SideState C) (p : SideState C) → Rounds S (Some k) lists states → ((i : ℕ) → Extends (open_lists i) (open_lists (suc i))) → Reached k n lists open_lists → states m ≡ p → Rests S (take k (lists m)) p → k ≤ length (lists m) → RestsAt S (take k (open_lists n)) (states 0) p
+cut-alone S k n m lists open_lists states p rounds grow reached comes rests enough =
+    let r = reached.at_round in
+    let e : n - r + r ≡ n = omega (arith, reached.before) in
+    let f : r + m ≡ m + r = omega arith in
+    let h : k ≤ length (lists r) = subst (λ l. k ≤ length l) (sym reached.same) reached.enough in
+    let opened = extends-take k (open_lists r) (open_lists (n - r + r)) (lists-grow open_lists grow r (n - r)) reached.enough in
+    let to_r = extends-take k (lists r) (lists (m + r)) (lists-grow lists rounds.grows r m) h in
+    let to_m = extends-take k (lists m) (lists (r + m)) (lists-grow lists rounds.grows m r) enough in
+    let same : take k (open_lists n) ≡ take k (lists m) = ap (λ i. take k (open_lists i)) (sym e) ∙ opened ∙ ap (λ l. take k l) (sym reached.same) ∙ sym to_r ∙ ap (λ i. take k (lists i)) (sym f) ∙ to_m in
+    let a = rounds-follow S (Some k) lists states rounds m in
+    record {
+      turns = a.0;
+      comes = ap (λ l. endpoint_run S l a.0 (states 0)) same ∙ a.1 ∙ comes;
+      rests = subst (λ l. Rests S l p) (sym same) rests;
+    }
+
 pub page-cut : {C D : Type 0} (P : Plans C) (Q : Plans D) (w : Machine C D) (rounds k : ℕ) (p : SideState C) → k ≤ length (machine_run P Q None None rounds w).plugin.sent → RestsAt P (take k (machine_run P Q None None rounds w).plugin.sent) w.page p → PageRests P Q w k p
 page-cut P Q w rounds k p enough rest =
     let gated = λ (m : ℕ). (machine_run P Q (Some k) None m w).plugin.sent in
@@ -93,30 +111,13 @@ page-cut P Q w rounds k p enough rest =
     let c = cut-rests P k rounds gated open_lists (λ m. (machine_run P Q (Some k) None m w).page) p (page-rounds P Q (Some k) None w) (page-rounds P Q None None w).grows reached rest in
     record { rounds = c.round; comes = c.comes; rests = c.rests; enough = c.enough }
 
--- and the other way: there it rests alone with the messages that come through the gate
 pub page-alone : {C D : Type 0} (P : Plans C) (Q : Plans D) (w : Machine C D) (rounds k : ℕ) (p : SideState C) → k ≤ length (machine_run P Q None None rounds w).plugin.sent → PageRests P Q w k p → RestsAt P (take k (machine_run P Q None None rounds w).plugin.sent) w.page p
 page-alone P Q w rounds k p enough r =
     let gated = λ (m : ℕ). (machine_run P Q (Some k) None m w).plugin.sent in
     let open_lists = λ (m : ℕ). (machine_run P Q None None m w).plugin.sent in
-    let states = λ (m : ℕ). (machine_run P Q (Some k) None m w).page in
     let reached : Reached k rounds gated open_lists =
     ⊎_elim (λ e. record { at_round = rounds; before = omega arith; same = ap (λ u. u.plugin.sent) e; enough = enough }) (λ x. x) (page-reached P Q w k rounds) in
-    let m = reached.at_round in
-    let n = r.rounds in
-    let in_rounds = page-rounds P Q (Some k) None w in
-    let e : rounds - m + m ≡ rounds = omega (arith, reached.before) in
-    let f : m + n ≡ n + m = omega arith in
-    let h : k ≤ length (gated m) = subst (λ l. k ≤ length l) (sym reached.same) reached.enough in
-    let opened = extends-take k (open_lists m) (open_lists (rounds - m + m)) (lists-grow open_lists (page-rounds P Q None None w).grows m (rounds - m)) reached.enough in
-    let to_m = extends-take k (gated m) (gated (n + m)) (lists-grow gated in_rounds.grows m n) h in
-    let to_n = extends-take k (gated n) (gated (m + n)) (lists-grow gated in_rounds.grows n m) r.enough in
-    let same : take k (open_lists rounds) ≡ take k (gated n) = ap (λ i. take k (open_lists i)) (sym e) ∙ opened ∙ ap (λ l. take k l) (sym reached.same) ∙ sym to_m ∙ ap (λ i. take k (gated i)) (sym f) ∙ to_n in
-    let a = rounds-follow P (Some k) gated states in_rounds n in
-    record {
-      turns = a.0;
-      comes = ap (λ l. endpoint_run P l a.0 w.page) same ∙ a.1 ∙ r.comes;
-      rests = subst (λ l. Rests P l p) (sym same) r.rests;
-    }
+    cut-alone P k rounds r.rounds gated open_lists (λ m. (machine_run P Q (Some k) None m w).page) p (page-rounds P Q (Some k) None w) (page-rounds P Q None None w).grows reached r.comes r.rests r.enough
 
 pub plugin-cut : {C D : Type 0} (P : Plans C) (Q : Plans D) (w : Machine C D) (rounds j : ℕ) (q : SideState D) → j ≤ length (machine_run P Q None None rounds w).page.sent → RestsAt Q (take j (machine_run P Q None None rounds w).page.sent) w.plugin q → PluginRests P Q w j q
 plugin-cut P Q w rounds j q enough rest =
@@ -131,11 +132,6 @@ plugin-cut P Q w rounds j q enough rest =
     let c = cut-rests Q j rounds gated open_lists (λ m. (machine_run P Q None (Some j) m w).plugin) q (plugin-rounds P Q None (Some j) w) (plugin-rounds P Q None None w).grows reached (subst (λ l. RestsAt Q l w.plugin q) (sym same) rest) in
     record { rounds = suc c.round; comes = c.stays; rests = c.rests; enough = c.enough }
 
--- ---- one rest
-
-pub page-one_rest : {C D : Type 0} (P : Plans C) (Q : Plans D) (w : Machine C D) (k : ℕ) (p q : SideState C) → PageRests P Q w k p → PageRests P Q w k q → p ≡ q
-page-one_rest P Q w k p q a b = rounds-one_rest P k (λ m. (machine_run P Q (Some k) None m w).plugin.sent) (λ m. (machine_run P Q (Some k) None m w).page) a.rounds b.rounds p q (page-rounds P Q (Some k) None w) a.enough b.enough a.comes b.comes a.rests b.rests
-
 -- the messages that reach it by the next turn are the same, since so many are there
 plugin-next : {C D : Type 0} (P : Plans C) (Q : Plans D) (w : Machine C D) (j n : ℕ) → j ≤ length (machine_run P Q None (Some j) n w).page.sent → (j ≤ length (machine_run P Q None (Some j) (suc n) w).page.sent) × (take j (machine_run P Q None (Some j) (suc n) w).page.sent ≡ take j (machine_run P Q None (Some j) n w).page.sent)
 plugin-next P Q w j n h =
@@ -143,6 +139,24 @@ plugin-next P Q w j n h =
     let grown = (turn-grows P u.plugin.sent u.page).sent in
     let longer = extends-length u.page.sent (machine_run P Q None (Some j) (suc n) w).page.sent grown in
     (omega (arith, h, longer), extends-take j u.page.sent (machine_run P Q None (Some j) (suc n) w).page.sent grown h)
+
+pub plugin-alone : {C D : Type 0} (P : Plans C) (Q : Plans D) (w : Machine C D) (rounds j : ℕ) (q : SideState D) → j ≤ length (machine_run P Q None None rounds w).page.sent → PluginRests P Q w j q → RestsAt Q (take j (machine_run P Q None None rounds w).page.sent) w.plugin q
+plugin-alone P Q w rounds j q enough r =
+    let gated = λ (m : ℕ). (machine_run P Q None (Some j) (suc m) w).page.sent in
+    let open_lists = λ (m : ℕ). (machine_run P Q None None (suc m) w).page.sent in
+    let u = machine_run P Q None None rounds w in
+    let grown = (turn-grows P u.plugin.sent u.page).sent in
+    let longer = extends-length u.page.sent (open_lists rounds) grown in
+    let reached : Reached j rounds gated open_lists =
+    ⊎_elim (λ e. record { at_round = rounds; before = omega arith; same = ap (λ v. (page_turn P None v).page.sent) e; enough = omega (arith, enough, longer) }) (λ x. x) (plugin-reached P Q w j rounds) in
+    let next = plugin-next P Q w j r.rounds r.enough in
+    let alone = cut-alone Q j rounds r.rounds gated open_lists (λ m. (machine_run P Q None (Some j) m w).plugin) q (plugin-rounds P Q None (Some j) w) (plugin-rounds P Q None None w).grows reached r.comes (subst (λ l. Rests Q l q) (sym next.1) r.rests) next.0 in
+    subst (λ l. RestsAt Q l w.plugin q) (extends-take j u.page.sent (open_lists rounds) grown enough) alone
+
+-- ---- one rest
+
+pub page-one_rest : {C D : Type 0} (P : Plans C) (Q : Plans D) (w : Machine C D) (k : ℕ) (p q : SideState C) → PageRests P Q w k p → PageRests P Q w k q → p ≡ q
+page-one_rest P Q w k p q a b = rounds-one_rest P k (λ m. (machine_run P Q (Some k) None m w).plugin.sent) (λ m. (machine_run P Q (Some k) None m w).page) a.rounds b.rounds p q (page-rounds P Q (Some k) None w) a.enough b.enough a.comes b.comes a.rests b.rests
 
 pub plugin-one_rest : {C D : Type 0} (P : Plans C) (Q : Plans D) (w : Machine C D) (j : ℕ) (p q : SideState D) → PluginRests P Q w j p → PluginRests P Q w j q → p ≡ q
 plugin-one_rest P Q w j p q a b =

@@ -1,7 +1,6 @@
 -- The page makes few calls: those that it made, and those that it may still make, are at most two for each command and two more.
-use Rattle.std.proofs.Common.{◌≡◌, ℕ, zero, suc, ◌+◌, ◌-◌, ◌*◌, ◌<◌, ◌≤◌, List, [], ◌∷◌, ◌++◌, length, set, get_or, Bool, true, false, refl, sym, ap, ◌∙◌, subst, arith, Option, Some, None, length-append}
+use Rattle.std.proofs.Common.{◌≡◌, ℕ, zero, suc, ◌+◌, ◌-◌, ◌*◌, ◌≤◌, List, [], ◌∷◌, ◌++◌, length, Bool, true, false, refl, sym, ap, ◌∙◌, subst, arith, Option, Some, None, length-append}
 use Rattle.std.specs.Prelude.{if◌then◌else◌, position, slice_set}
-use Rattle.std.proofs.lemmas.List.Quantifiers.{position-Some}
 use Rattle.np_values.specs.declared.error.NpError.{NpError}
 use Rattle.np_values.specs.declared.error.NpError.TheVariants.{NoError, IncompatibleVersion}
 use Rattle.np_model.specs.declared.script.Command.{Command}
@@ -14,8 +13,7 @@ use Rattle.np_model.specs.declared.page.Outstanding.{Outstanding}
 use Rattle.np_model.specs.declared.page.Outstanding.TheVariants as calls
 use Rattle.np_model.specs.declared.page.PeerState.{PeerState}
 use Rattle.np_model.specs.declared.page.PeerState.TheVariants.{Compatible, Incompatible, Lost}
-use Rattle.np_model.specs.declared.page.Phase.{Phase}
-use Rattle.np_model.specs.declared.page.Phase.TheVariants.{Absent, Live, Destroying, Dead}
+use Rattle.np_model.specs.declared.page.Phase.TheVariants.{Live, Destroying, Dead}
 use Rattle.np_model.specs.declared.page.Stage.{Stage}
 use Rattle.np_model.specs.declared.page.Stage.TheVariants.{Begin, Ready, Awaiting, Unanswered, Ended}
 use Rattle.np_model.specs.declared.refusal.Rule.TheVariants.{WrongKind}
@@ -24,50 +22,8 @@ use Rattle.np_model.specs.Side.{SideState, run_steps, examine, at_start}
 use Rattle.np_model.specs.Run.{Acts, Meeting, Accepts, Refuses, next_message, meets, listens, turn_at, turn, endpoint_run}
 use Rattle.np_model.specs.PagePlan.{PageControl, page_plans, page_start, at_level_1, calls_for, with_phase, with_instance, last_instance, begun, create_plan, turn_plan, close_plan, end_plan, next_plan, go_plan, pace_at, is_live, resumes, created, greeted, destroyed, unmatched, reply_plan, is_reply, is_level_1, instance_of, meet_at, meet_plan}
 use Rattle.np_laws.proofs.Lost.{acts}
-use Rattle.np_laws.proofs.Honest.{Paced, PacedAt, page-paced}
-
--- ---- live instances
-
-abbrev live_of : Phase → ℕ
-live_of Absent = 0
-live_of Live = 1
-live_of Destroying = 0
-live_of Dead = 0
-
-abbrev live : List Phase → ℕ
-live [] = 0
-live (phase ∷ phases) = live_of phase + live phases
-
-live-more : (phases : List Phase) (phase : Phase) → live (phases ++ phase ∷ []) ≡ live phases + live_of phase
-live-more [] phase = omega arith
-live-more (x ∷ phases) phase = let ih = live-more phases phase in omega (arith, ih)
-
--- an instance that dies isn't live
-live-dead : (phases : List Phase) (place : ℕ) → live (slice_set phases place Dead) ≤ live phases
-live-dead [] place = omega arith
-live-dead (x ∷ phases) zero = omega arith
-live-dead (x ∷ phases) (suc place) = let ih = live-dead phases place in omega (arith, ih)
-
-live-set : (phases : List Phase) (place : ℕ) (phase other : Phase) → place < length phases → live (set phases place phase) + live_of (get_or phases place other) ≡ live phases + live_of phase
-live-set [] place phase other h = absurd (omega (arith, h))
-live-set (x ∷ phases) zero phase other h = omega arith
-live-set (x ∷ phases) (suc place) phase other h =
-    let below : place < length phases = omega (arith, h) in
-    let ih = live-set phases place phase other below in
-    omega (arith, ih)
-
-is-live : (phase : Phase) → is_live phase ≡ true → live_of phase ≡ 1
-is-live Absent e = cc
-is-live Live e = refl
-is-live Destroying e = cc
-is-live Dead e = cc
-
-live-destroying : (phases : List Phase) (place : ℕ) → position is_live phases ≡ Some place → live (slice_set phases place Destroying) + 1 ≡ live phases
-live-destroying phases place e =
-    let found = position-Some is_live phases place Dead e in
-    let one = is-live (get_or phases place Dead) found.1 in
-    let replaced = live-set phases place Destroying Dead found.0 in
-    omega (arith, one, replaced)
+use Rattle.np_laws.proofs.LiveInstances.{live, live-more, live-dead, live-destroying}
+use Rattle.np_laws.proofs.PagePace.{Paced, PacedAt, page-paced}
 
 -- ---- calls that may still be made
 

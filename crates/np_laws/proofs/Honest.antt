@@ -1,302 +1,25 @@
 -- In the run of a page and a plug-in neither refuses what the other sent.
-use Rattle.std.proofs.Common.{◌≡◌, ℕ, zero, suc, ◌+◌, List, [], ◌∷◌, ◌++◌, length, map, Bool, true, false, refl, sym, ap, ◌∙◌, subst, arith, drop, Option, Some, None, inl, inr, ◌⊎◌, ⊎_elim, length-append}
-use Rattle.std.specs.Prelude.{if◌then◌else◌, nat_lt, position}
-use Rattle.std.proofs.lemmas.List.{map-append, drop_at}
-use Rattle.np_values.specs.declared.error.NpError.{NpError}
-use Rattle.np_values.specs.declared.error.NpError.TheVariants.{NoError, Generic, InvalidInstance, InvalidFunctable, ModuleLoadFailed, OutOfMemory, InvalidPlugin, InvalidPluginDir, IncompatibleVersion, InvalidParam, InvalidUrl, FileNotFound, NoData, StreamNotSeekable}
-use Rattle.np_model.specs.declared.script.Command.{Command}
-use Rattle.np_model.specs.declared.script.Command.TheVariants.{Create, Turn}
+use Rattle.std.proofs.Common.{◌≡◌, ℕ, zero, suc, List, [], ◌∷◌, length, map, refl, sym, ap, ◌∙◌, subst, drop, Some, None}
 use Rattle.np_model.specs.declared.script.Page.{Page}
+use Rattle.np_model.specs.declared.script.Plugin.{Plugin}
 use Rattle.np_model.specs.declared.message.Payload.{Payload}
-use Rattle.np_model.specs.declared.message.Payload.TheVariants as payloads
-use Rattle.np_model.specs.declared.message.Depth.{Depth}
 use Rattle.np_model.specs.declared.message.Message.{Message}
 use Rattle.np_model.specs.declared.page.Outstanding.{Outstanding}
-use Rattle.np_model.specs.declared.page.Outstanding.TheVariants as calls
-use Rattle.np_model.specs.declared.page.PeerState.{PeerState}
-use Rattle.np_model.specs.declared.page.PeerState.TheVariants.{Compatible, Incompatible, Lost}
-use Rattle.np_model.specs.declared.page.Phase.TheVariants.{Live, Destroying}
 use Rattle.np_model.specs.declared.page.Stage.{Stage}
 use Rattle.np_model.specs.declared.page.Stage.TheVariants.{Begin, Ready, Awaiting, Unanswered, Ended}
-use Rattle.np_model.specs.declared.refusal.Rule.{Rule}
-use Rattle.np_model.specs.declared.refusal.Rule.TheVariants.{WrongKind}
-use Rattle.np_model.specs.Encoding.{kind_of}
-use Rattle.np_model.specs.Side.{SideState, Micro, run_steps, examine, at_start}
-use Rattle.np_model.specs.Run.{Acts, Awaits, HasEnded, Meeting, Accepts, Refuses, first, next_message, meets, listens, turn_at, turn, endpoint_run, Machine, machine_run}
-use Rattle.np_model.specs.PagePlan.{PageControl, page_plans, page_start, at_level_1, calls_for, with_phase, with_instance, last_instance, begun, create_plan, turn_plan, close_plan, end_plan, next_plan, go_plan, pace_at, is_live, created, greeted, destroyed, unmatched, reply_plan, is_reply, is_level_1, instance_of, meet_at, meet_plan}
-use Rattle.np_model.specs.PluginPlan.{Plugin, PluginControl, reply_to, serves, plugin_pace, plugin_plans, plugin_start}
-use Rattle.np_laws.specs.Laws.{both_start, RefusesNone}
+use Rattle.np_model.specs.Side.{SideState, at_start}
+use Rattle.np_model.specs.Run.{Acts, Awaits, HasEnded, first, next_message, turn, endpoint_run, Machine, machine_run}
+use Rattle.np_model.specs.PagePlan.{PageControl, page_plans, page_start, at_level_1, pace_at}
+use Rattle.np_model.specs.PluginPlan.{PluginControl, plugin_plans, plugin_start, reply_message}
+use Rattle.np_laws.specs.Laws.{both_start, RefusesNone, AreCallsInTurn}
 use Rattle.np_laws.proofs.Alone.{Extends, first-extends, endpoint-examined, endpoint-sent}
-use Rattle.np_laws.proofs.Lost.{acts}
 use Rattle.np_laws.proofs.Gated.{rounds-follow}
 use Rattle.np_laws.proofs.Cut.{page-rounds, plugin-rounds}
+use Rattle.np_laws.proofs.PagePace.{asks, PacedAt, page-paced}
+use Rattle.np_laws.proofs.PluginServes.{plugin-serves, plugin-honest}
+use Rattle.np_laws.proofs.CallsInTurn.{Stands, IsAnswered, page-turn-stands, page-starts, answer-accepted}
 
--- ---- calls and their replies
-
--- which call a message is
-abbrev pub asks : Payload → Option Outstanding
-asks (payloads.Hello version major minor) = Some calls.Hello
-asks (payloads.New instance mode mime attributes) = Some calls.New
-asks (payloads.Destroy instance) = Some (calls.Destroy instance)
-asks payloads.Turn = Some calls.Turn
-asks payloads.Shutdown = Some calls.Shutdown
-asks (payloads.Code error) = None
-asks payloads.Done = None
-
--- the reply to a call is accepted where that call is awaited
-record Accepted (meeting : Meeting PageControl) : Type 0 where
-  steps : List (Micro PageControl)
-  is : meeting ≡ Accepts steps
-
-created-accepted : (c : PageControl) (error : NpError) → Accepted (created c error)
-created-accepted c NoError = record { steps = _; is = refl }
-created-accepted c Generic = record { steps = _; is = refl }
-created-accepted c InvalidInstance = record { steps = _; is = refl }
-created-accepted c InvalidFunctable = record { steps = _; is = refl }
-created-accepted c ModuleLoadFailed = record { steps = _; is = refl }
-created-accepted c OutOfMemory = record { steps = _; is = refl }
-created-accepted c InvalidPlugin = record { steps = _; is = refl }
-created-accepted c InvalidPluginDir = record { steps = _; is = refl }
-created-accepted c IncompatibleVersion = record { steps = _; is = refl }
-created-accepted c InvalidParam = record { steps = _; is = refl }
-created-accepted c InvalidUrl = record { steps = _; is = refl }
-created-accepted c FileNotFound = record { steps = _; is = refl }
-created-accepted c NoData = record { steps = _; is = refl }
-created-accepted c StreamNotSeekable = record { steps = _; is = refl }
-
-greeted-accepted : (c : PageControl) (m : Message) (is_later : Bool) → Accepted (greeted c m (if is_later then IncompatibleVersion else NoError))
-greeted-accepted c m true = record { steps = _; is = refl }
-greeted-accepted c m false = record { steps = _; is = refl }
-
-unfoldable pub reply_message : Plugin → Message → Message
-reply_message plugin m = record { depth = m.depth; body = reply_to plugin m.body }
-
-meet-accepted : (plugin : Plugin) (c : PageControl) (body : Payload) (call : Outstanding) → c.stage ≡ Awaiting call → asks body ≡ Some call → Accepted (meet_plan c (reply_message plugin (at_level_1 body)))
-unfolding reply_message
-meet-accepted plugin c (payloads.Hello version major minor) call e a =
-    let stage : c.stage ≡ Awaiting calls.Hello = cc in
-    let m = reply_message plugin (at_level_1 (payloads.Hello version major minor)) in
-    subst (λ s. Accepted (meet_at c m s)) (sym stage) (greeted-accepted c m (nat_lt plugin.major major))
-meet-accepted plugin c (payloads.New instance mode mime attributes) call e a =
-    let stage : c.stage ≡ Awaiting calls.New = cc in
-    subst (λ s. Accepted (meet_at c (reply_message plugin (at_level_1 (payloads.New instance mode mime attributes))) s)) (sym stage) (created-accepted c plugin.answer)
-meet-accepted plugin c (payloads.Destroy instance) call e a =
-    let stage : c.stage ≡ Awaiting (calls.Destroy instance) = cc in
-    subst (λ s. Accepted (meet_at c (reply_message plugin (at_level_1 (payloads.Destroy instance))) s)) (sym stage) (record { steps = _; is = refl })
-meet-accepted plugin c payloads.Turn call e a =
-    let stage : c.stage ≡ Awaiting calls.Turn = cc in
-    subst (λ s. Accepted (meet_at c (reply_message plugin (at_level_1 payloads.Turn)) s)) (sym stage) (record { steps = _; is = refl })
-meet-accepted plugin c payloads.Shutdown call e a =
-    let stage : c.stage ≡ Awaiting calls.Shutdown = cc in
-    subst (λ s. Accepted (meet_at c (reply_message plugin (at_level_1 payloads.Shutdown)) s)) (sym stage) (record { steps = _; is = refl })
-meet-accepted plugin c (payloads.Code error) call e a = let n : ⊥ = cc in absurd n
-meet-accepted plugin c payloads.Done call e a = let n : ⊥ = cc in absurd n
-
-call-served : (plugin : Plugin) (m : Message) (body : Payload) (call : Outstanding) (rule : Rule) (a b : ℕ) → asks body ≡ Some call → serves plugin m body ≡ Refuses rule a b → ⊥
-call-served plugin m (payloads.Hello version major minor) call rule a b e f = cc
-call-served plugin m (payloads.New instance mode mime attributes) call rule a b e f = cc
-call-served plugin m (payloads.Destroy instance) call rule a b e f = cc
-call-served plugin m payloads.Turn call rule a b e f = cc
-call-served plugin m payloads.Shutdown call rule a b e f = cc
-call-served plugin m (payloads.Code error) call rule a b e f = cc
-call-served plugin m payloads.Done call rule a b e f = cc
-
--- ---- what the page sends
-
-abbrev pub level_1 : Depth
-level_1 = record { level = 1; task = false }
-
--- every message is a call of level 1
-pub record AreCalls (messages : List Message) : Type 0 where
-  pub at_place : (k : ℕ) (m : Message) → first (drop k messages) ≡ Some m → (call : Outstanding) × (asks m.body ≡ Some call) × (m.depth ≡ level_1)
-
-first-last : (k : ℕ) (l : List Message) (x m : Message) → first (drop k (l ++ x ∷ [])) ≡ Some m → (first (drop k l) ≡ Some m) ⊎ (m ≡ x)
-first-last zero [] x m e = inr (cc)
-first-last zero (y ∷ l) x m e = inl e
-first-last (suc zero) [] x m e = cc
-first-last (suc (suc k)) [] x m e = cc
-first-last (suc k) (y ∷ l) x m e = first-last k l x m e
-
-one-more : (messages : List Message) (m : Message) (call : Outstanding) → asks m.body ≡ Some call → m.depth ≡ level_1 → AreCalls messages → AreCalls (messages ++ m ∷ [])
-one-more messages m call e d h = record {
-  at_place = λ k x f. ⊎_elim (λ g. h.at_place k x g) (λ g. (call, ap (λ y. asks y.body) g ∙ e, ap (λ y. y.depth) g ∙ d)) (first-last k messages m x f);
-}
-
--- the last message that was sent is the call that is open, and all others were answered
-pub record OpenCall (sent examined : List Message) (call : Outstanding) : Type 0 where
-  pub body : Payload
-  pub asked : asks body ≡ Some call
-  pub last : first (drop (length examined) sent) ≡ Some (at_level_1 body)
-  pub count : length sent ≡ suc (length examined)
-
-abbrev pub PacedAt : List Message → List Message → Stage → Type 0
-PacedAt sent examined Begin = length sent ≡ length examined
-PacedAt sent examined Ready = length sent ≡ length examined
-PacedAt sent examined (Awaiting call) = OpenCall sent examined call
-PacedAt sent examined (Unanswered call) = ⊥
-PacedAt sent examined Ended = length sent ≡ length examined
-
--- what holds of the page along every run
-pub record Paced (p : SideState PageControl) : Type 0 where
-  pub are_calls : AreCalls p.sent
-  pub pace : PacedAt p.sent p.examined p.control.stage
-
-paced-at : (p : SideState PageControl) (stage : Stage) → p.control.stage ≡ stage → AreCalls p.sent → PacedAt p.sent p.examined stage → Paced p
-paced-at p stage e h t = record { are_calls = h; pace = subst (λ s. PacedAt p.sent p.examined s) (sym e) t }
-
-call-paced : (c : PageControl) (call : Outstanding) (body : Payload) (p : SideState PageControl) → asks body ≡ Some call → AreCalls p.sent → length p.sent ≡ length p.examined → Paced (run_steps (calls_for c call body) p)
-call-paced c call body p e h t = record {
-  are_calls = one-more p.sent (at_level_1 body) call e refl h;
-  pace = record {
-    body = body;
-    asked = e;
-    last = ap first (drop_at p.sent (at_level_1 body ∷ []) (length p.examined) t);
-    count = omega (arith, t, length-append p.sent (at_level_1 body ∷ []));
-  };
-}
-
-close-paced : (place : Option ℕ) (c : PageControl) (p : SideState PageControl) → AreCalls p.sent → length p.sent ≡ length p.examined → Paced (run_steps (close_plan c place) p)
-close-paced (Some place) c p h t = call-paced (with_phase c (place + 1) Destroying) (calls.Destroy (place + 1)) (payloads.Destroy (place + 1)) p refl h t
-close-paced None c p h t = call-paced c calls.Shutdown payloads.Shutdown p refl h t
-
-end-paced : (peer : PeerState) (c : PageControl) (p : SideState PageControl) → AreCalls p.sent → length p.sent ≡ length p.examined → Paced (run_steps (end_plan c peer) p)
-end-paced Compatible c p h t = close-paced (position is_live c.phases) c p h t
-end-paced Incompatible c p h t = close-paced (position is_live c.phases) c p h t
-end-paced Lost c p h t = record { are_calls = h; pace = t }
-
-create-paced : (peer : PeerState) (c : PageControl) (mime : List ℕ) (mode : ℕ) (p : SideState PageControl) → c.stage ≡ Ready → AreCalls p.sent → length p.sent ≡ length p.examined → Paced (run_steps (create_plan c mime mode peer) p)
-create-paced Compatible c mime mode p e h t = call-paced (with_instance c Live) calls.New (payloads.New (last_instance (with_instance c Live)) mode mime []) p refl h t
-create-paced Incompatible c mime mode p e h t = paced-at (run_steps (create_plan c mime mode Incompatible) p) Ready e h t
-create-paced Lost c mime mode p e h t = paced-at (run_steps (create_plan c mime mode Lost) p) Ready e h t
-
-turn-paced : (peer : PeerState) (c : PageControl) (p : SideState PageControl) → c.stage ≡ Ready → AreCalls p.sent → length p.sent ≡ length p.examined → Paced (run_steps (turn_plan c peer) p)
-turn-paced Compatible c p e h t = call-paced c calls.Turn payloads.Turn p refl h t
-turn-paced Incompatible c p e h t = call-paced c calls.Turn payloads.Turn p refl h t
-turn-paced Lost c p e h t = paced-at (run_steps (turn_plan c Lost) p) Ready e h t
-
-next-paced : (commands : List Command) (c : PageControl) (p : SideState PageControl) → c.stage ≡ Ready → AreCalls p.sent → length p.sent ≡ length p.examined → Paced (run_steps (next_plan c commands) p)
-next-paced [] c p e h t = end-paced c.peer c p h t
-next-paced (Create mime mode ∷ rest) c p e h t = create-paced c.peer (begun c rest) mime mode p e h t
-next-paced (Turn ∷ rest) c p e h t = turn-paced c.peer (begun c rest) p e h t
-
--- ---- what the page does with a message
-
--- a message that is accepted is examined, nothing is sent, and the page goes on or has ended
-record Settled (m : Message) (p q : SideState PageControl) : Type 0 where
-  sent : q.sent ≡ p.sent
-  examined : q.examined ≡ p.examined ++ m ∷ []
-  stage : (q.control.stage ≡ Ready) ⊎ (q.control.stage ≡ Ended)
-
-abbrev Settles : Message → Meeting PageControl → Type 0
-Settles m (Accepts steps) = (p : SideState PageControl) → Settled m p (run_steps steps (examine m p))
-Settles m (Refuses rule a b) = Unit {0}
-
-created-settles : (c : PageControl) (m : Message) (error : NpError) → Settles m (created c error)
-created-settles c m NoError = λ p. record { sent = refl; examined = refl; stage = inl refl }
-created-settles c m error = λ p. record { sent = refl; examined = refl; stage = inl refl }
-
-greeted-settles : (c : PageControl) (m : Message) (error : NpError) → Settles m (greeted c m error)
-greeted-settles c m NoError = λ p. record { sent = refl; examined = refl; stage = inl refl }
-greeted-settles c m IncompatibleVersion = λ p. record { sent = refl; examined = refl; stage = inl refl }
-greeted-settles c m error = tt
-
-destroyed-settles : (c : PageControl) (m : Message) (instance : ℕ) (error : NpError) → Settles m (destroyed c m instance error)
-destroyed-settles c m instance NoError = λ p. record { sent = refl; examined = refl; stage = inl refl }
-destroyed-settles c m instance error = tt
-
-reply-settles : (c : PageControl) (m : Message) (call : Outstanding) (body : Payload) → Settles m (reply_plan c m call body)
-reply-settles c m calls.Hello (payloads.Code error) = greeted-settles c m error
-reply-settles c m calls.New (payloads.Code error) = created-settles c m error
-reply-settles c m (calls.Destroy instance) (payloads.Code error) = destroyed-settles c m instance error
-reply-settles c m calls.Turn payloads.Done = λ p. record { sent = refl; examined = refl; stage = inl refl }
-reply-settles c m calls.Shutdown payloads.Done = λ p. record { sent = refl; examined = refl; stage = inr refl }
-reply-settles c m call body = tt
-
-if-settles : (m : Message) (b : Bool) (x y : Meeting PageControl) → Settles m x → Settles m y → Settles m (if b then x else y)
-if-settles m true x y h g = h
-if-settles m false x y h g = g
-
-at-settles : (c : PageControl) (m : Message) (stage : Stage) → Settles m (meet_at c m stage)
-at-settles c m (Awaiting call) = if-settles m (is_level_1 m.depth) (reply_plan c m call m.body) (unmatched m) (reply-settles c m call m.body) tt
-at-settles c m stage = tt
-
-meet-settles : (c : PageControl) (m : Message) → Settles m (meet_plan c m)
-meet-settles c m = if-settles m (is_reply m.body) (meet_at c m c.stage) (Refuses WrongKind (kind_of m.body) (instance_of m.body)) (at-settles c m c.stage) tt
-
-settled-paced : (m : Message) (p q : SideState PageControl) → AreCalls p.sent → length p.sent ≡ suc (length p.examined) → Settled m p q → Paced q
-settled-paced m p q h t r =
-    let are : AreCalls q.sent = subst (λ l. AreCalls l) (sym r.sent) h in
-    let sent = ap length r.sent in
-    let examined = ap length r.examined in
-    let count : length q.sent ≡ length q.examined = omega (arith, t, sent, examined, length-append p.examined (m ∷ [])) in
-    ⊎_elim (λ e. paced-at q Ready e are count) (λ e. paced-at q Ended e are count) r.stage
-
-heard-paced : (page : Page) (p : SideState PageControl) (call : Outstanding) → Paced p → OpenCall p.sent p.examined call → (o : Option Message) → Paced (listens (page_plans page) p o)
-heard-paced page p call h t None = h
-heard-paced page p call h t (Some m) = met (meet_plan p.control m) (meet-settles p.control m)
-  where
-    met : (meeting : Meeting PageControl) → Settles m meeting → Paced (meets p m meeting)
-    met (Accepts steps) r = settled-paced m p (run_steps steps (examine m p)) h.are_calls t.count (r p)
-    met (Refuses rule a b) r = h
-
-page-turn-paced : (page : Page) (got : List Message) (p : SideState PageControl) → Paced p → Paced (turn (page_plans page) got p)
-page-turn-paced page got p h = at p.control.stage refl
-  where
-    known : (stage : Stage) → p.control.stage ≡ stage → PacedAt p.sent p.examined stage
-    known stage e = subst (λ s. PacedAt p.sent p.examined s) e h.pace
-
-    moved : (stage : Stage) → p.control.stage ≡ stage → Paced (turn_at (page_plans page) got p (pace_at stage)) → Paced (turn (page_plans page) got p)
-    moved stage e t = subst (λ s. Paced (turn_at (page_plans page) got p (pace_at s))) (sym e) t
-
-    acted : (stage : Stage) → p.control.stage ≡ stage → pace_at stage ≡ Acts → Paced (run_steps (go_plan page p.control stage) p) → Paced (turn (page_plans page) got p)
-    acted stage e a t = subst (λ q. Paced q) (sym (acts page got p stage e a)) t
-
-    at : (stage : Stage) → p.control.stage ≡ stage → Paced (turn (page_plans page) got p)
-    at Begin e = acted Begin e refl (call-paced p.control calls.Hello (payloads.Hello 1 page.major page.minor) p refl h.are_calls (known Begin e))
-    at Ready e = acted Ready e refl (next-paced p.control.commands p.control p e h.are_calls (known Ready e))
-    at (Awaiting call) e = moved (Awaiting call) e (heard-paced page p call h (known (Awaiting call) e) (next_message got p))
-    at (Unanswered call) e = absurd (known (Unanswered call) e)
-    at Ended e = moved Ended e h
-
-pub page-paced : (page : Page) (got : List Message) (n : ℕ) → Paced (endpoint_run (page_plans page) got n (at_start (page_start page)))
-page-paced page got zero = record { are_calls = record { at_place = λ k m e. nothing k m e }; pace = refl }
-  where
-    nothing : (k : ℕ) (m : Message) → first (drop k []) ≡ Some m → (call : Outstanding) × (asks m.body ≡ Some call) × (m.depth ≡ level_1)
-    nothing zero m e = let n : ⊥ = cc in absurd n
-    nothing (suc k) m e = let n : ⊥ = cc in absurd n
-page-paced page got (suc n) = page-turn-paced page got (endpoint_run (page_plans page) got n (at_start (page_start page))) (page-paced page got n)
-
--- ---- what the plug-in sends
-
--- one reply to each message that it examined
-pub record Serves (plugin : Plugin) (p : SideState PluginControl) : Type 0 where
-  pub is : p.sent ≡ map (reply_message plugin) p.examined
-
-plugin-turn-serves : (plugin : Plugin) (got : List Message) (p : SideState PluginControl) → Serves plugin p → Serves plugin (turn (plugin_plans plugin) got p)
-unfolding reply_message
-plugin-turn-serves plugin got p h = at p.control.ended
-  where
-    replied : (m : Message) → p.sent ++ reply_message plugin m ∷ [] ≡ map (reply_message plugin) (p.examined ++ m ∷ [])
-    replied m = ap (λ l. l ++ reply_message plugin m ∷ []) h.is ∙ sym (map-append (reply_message plugin) p.examined (m ∷ []))
-
-    met : (m : Message) (body : Payload) → Serves plugin (meets p m (serves plugin m body))
-    met m (payloads.Code error) = h
-    met m payloads.Done = h
-    met m body = record { is = replied m }
-
-    heard : (o : Option Message) → Serves plugin (listens (plugin_plans plugin) p o)
-    heard None = h
-    heard (Some m) = met m m.body
-
-    at : (ended : Bool) → Serves plugin (turn_at (plugin_plans plugin) got p (plugin_pace ended))
-    at true = h
-    at false = heard (next_message got p)
-
-pub plugin-serves : (plugin : Plugin) (got : List Message) (n : ℕ) → Serves plugin (endpoint_run (plugin_plans plugin) got n (at_start plugin_start))
-plugin-serves plugin got zero = record { is = refl }
-plugin-serves plugin got (suc n) = plugin-turn-serves plugin got (endpoint_run (plugin_plans plugin) got n (at_start plugin_start)) (plugin-serves plugin got n)
-
--- ---- both
+-- ---- the page alone, where a plug-in answers
 
 first-map : (f : Message → Message) (k : ℕ) (l : List Message) (m : Message) → first (drop k (map f l)) ≡ Some m → (x : Message) × (first (drop k l) ≡ Some x) × (m ≡ f x)
 first-map f zero [] m e = let n : ⊥ = cc in absurd n
@@ -304,48 +27,72 @@ first-map f zero (x ∷ l) m e = (x, refl, cc)
 first-map f (suc k) [] m e = let n : ⊥ = cc in absurd n
 first-map f (suc k) (x ∷ l) m e = first-map f k l m e
 
--- a page that is paced accepts the reply to its open call
-page-accepts : (plugin : Plugin) (got examined sent : List Message) (p : SideState PageControl) (m : Message) (rule : Rule) (a b : ℕ) → got ≡ map (reply_message plugin) examined → Extends examined sent → ((k : ℕ) (x y : Message) → first (drop k sent) ≡ Some x → first (drop k p.sent) ≡ Some y → x ≡ y) → Paced p → pace_at p.control.stage ≡ Awaits → next_message got p ≡ Some m → meet_plan p.control m ≡ Refuses rule a b → ⊥
-page-accepts plugin got examined sent p m rule a b replied f agree paced awaits next refused = at p.control.stage refl
-  where
-    open_call : (call : Outstanding) → p.control.stage ≡ Awaiting call → OpenCall p.sent p.examined call → ⊥
-    open_call call e t =
-        let x = first-map (reply_message plugin) (length p.examined) examined m (ap (λ l. first (drop (length p.examined) l)) (sym replied) ∙ next) in
-        let same = agree (length p.examined) x.0 (at_level_1 t.body) (first-extends (length p.examined) examined sent x.0 f x.1) t.last in
-        let accepted = meet-accepted plugin p.control t.body call e t.asked in
-        let is : m ≡ reply_message plugin (at_level_1 t.body) = x.2 ∙ ap (reply_message plugin) same in
-        let both : Refuses rule a b ≡ Accepts accepted.steps = sym refused ∙ ap (λ y. meet_plan p.control y) is ∙ accepted.is in
-        cc
+-- the messages that reach the page are the answers to its first calls
+record Answers (page : Page) (plugin : Plugin) (got : List Message) : Type 0 where
+  examined : List Message
+  turns : ℕ
+  are : got ≡ map (reply_message plugin) examined
+  begins : Extends examined (endpoint_run (page_plans page) got turns (at_start (page_start page))).sent
 
-    at : (stage : Stage) → p.control.stage ≡ stage → ⊥
+-- so the next one answers its open call
+page-answered : (page : Page) (plugin : Plugin) (got : List Message) (n : ℕ) → Answers page plugin got → IsAnswered plugin got (endpoint_run (page_plans page) got n (at_start (page_start page)))
+page-answered page plugin got n h = record { next = next }
+  where
+    next : (call : Outstanding) (m : Message) → (endpoint_run (page_plans page) got n (at_start (page_start page))).control.stage ≡ Awaiting call → next_message got (endpoint_run (page_plans page) got n (at_start (page_start page))) ≡ Some m → (body : Payload) × (asks body ≡ Some call) × (m ≡ reply_message plugin (at_level_1 body))
+    next call m e f =
+        let start = at_start (page_start page) in
+        let p = endpoint_run (page_plans page) got n start in
+        let k = length p.examined in
+        let sent = (endpoint_run (page_plans page) got h.turns start).sent in
+        let t = subst (λ s. PacedAt p.sent p.examined s) e (page-paced page got n).pace in
+        let x = first-map (reply_message plugin) k h.examined m (ap (λ l. first (drop k l)) (sym h.are) ∙ f) in
+        let same = endpoint-sent (page_plans page) got start h.turns n k x.0 (at_level_1 t.body) (first-extends k h.examined sent x.0 h.begins x.1) t.last in
+        (t.body, t.asked, x.2 ∙ ap (reply_message plugin) same)
+
+page-stands : (page : Page) (plugin : Plugin) (got : List Message) (n : ℕ) → Answers page plugin got → Stands plugin (endpoint_run (page_plans page) got n (at_start (page_start page)))
+page-stands page plugin got zero h = page-starts page plugin
+page-stands page plugin got (suc n) h = page-turn-stands page plugin got (endpoint_run (page_plans page) got n (at_start (page_start page))) (page-answered page plugin got n h) (page-stands page plugin got n h)
+
+page-honest : (page : Page) (plugin : Plugin) (got : List Message) → Answers page plugin got → RefusesNone (page_plans page) got (at_start (page_start page))
+page-honest page plugin got h turns m rule a b awaits next refused = at (endpoint_run (page_plans page) got turns (at_start (page_start page))).control.stage refl
+  where
+    at : (stage : Stage) → (endpoint_run (page_plans page) got turns (at_start (page_start page))).control.stage ≡ stage → ⊥
     at Begin e = let n : Acts ≡ Awaits = ap pace_at (sym e) ∙ awaits in cc
     at Ready e = let n : Acts ≡ Awaits = ap pace_at (sym e) ∙ awaits in cc
-    at (Awaiting call) e = open_call call e (subst (λ s. PacedAt p.sent p.examined s) e paced.pace)
+    at (Awaiting call) e = answer-accepted plugin got (endpoint_run (page_plans page) got turns (at_start (page_start page))) call m rule a b (page-stands page plugin got turns h) (page-answered page plugin got turns h) e next refused
     at (Unanswered call) e = let n : Acts ≡ Awaits = ap pace_at (sym e) ∙ awaits in cc
     at Ended e = let n : HasEnded ≡ Awaits = ap pace_at (sym e) ∙ awaits in cc
 
--- the page alone, given replies to the first calls of a further run of it
-page-honest : (page : Page) (plugin : Plugin) (got examined : List Message) (i : ℕ) → got ≡ map (reply_message plugin) examined → Extends examined (endpoint_run (page_plans page) got i (at_start (page_start page))).sent → RefusesNone (page_plans page) got (at_start (page_start page))
-page-honest page plugin got examined i replied f turns m rule a b =
-    page-accepts plugin got examined (endpoint_run (page_plans page) got i (at_start (page_start page))).sent (endpoint_run (page_plans page) got turns (at_start (page_start page))) m rule a b replied f (λ k x y. endpoint-sent (page_plans page) got (at_start (page_start page)) i turns k x y) (page-paced page got turns)
-
-plugin-honest : (plugin : Plugin) (got : List Message) → AreCalls got → RefusesNone (plugin_plans plugin) got (at_start plugin_start)
-plugin-honest plugin got h turns m rule a b awaits next refused =
-    let call = h.at_place (length (endpoint_run (plugin_plans plugin) got turns (at_start plugin_start)).examined) m next in
-    call-served plugin m m.body call.0 rule a b call.1 refused
+-- ---- the run of both
 
 abbrev machine : Page → Plugin → ℕ → Machine PageControl PluginControl
 machine page plugin n = machine_run (page_plans page) (plugin_plans plugin) None None n (both_start (page_start page) plugin_start)
 
-pub honest : (page : Page) (plugin : Plugin) (rounds : ℕ) → let w = machine_run (page_plans page) (plugin_plans plugin) None None rounds (both_start (page_start page) plugin_start) in RefusesNone (page_plans page) w.plugin.sent (at_start (page_start page)) × RefusesNone (plugin_plans plugin) w.page.sent (at_start plugin_start)
-honest page plugin rounds =
+-- the page of the machine alone, whose messages are the plug-in's answers
+record Answered (page : Page) (plugin : Plugin) (w : Machine PageControl PluginControl) : Type 0 where
+  turns : ℕ
+  follows : endpoint_run (page_plans page) w.plugin.sent turns (at_start (page_start page)) ≡ w.page
+  answers : Answers page plugin w.plugin.sent
+
+machine-answered : (page : Page) (plugin : Plugin) (rounds : ℕ) → Answered page plugin (machine page plugin rounds)
+machine-answered page plugin rounds =
     let w = machine page plugin rounds in
     let v = machine page plugin (suc rounds) in
     let start = both_start (page_start page) plugin_start in
     let a = rounds-follow (page_plans page) None (λ n. (machine page plugin n).plugin.sent) (λ n. (machine page plugin n).page) (page-rounds (page_plans page) (plugin_plans plugin) None None start) rounds in
     let b = rounds-follow (plugin_plans plugin) None (λ n. (machine page plugin (suc n)).page.sent) (λ n. (machine page plugin n).plugin) (plugin-rounds (page_plans page) (plugin_plans plugin) None None start) rounds in
     let further : endpoint_run (page_plans page) w.plugin.sent (suc a.0) (at_start (page_start page)) ≡ v.page = ap (λ q. turn (page_plans page) w.plugin.sent q) a.1 in
-    let serves_all : w.plugin.sent ≡ map (reply_message plugin) w.plugin.examined = ap (λ q. q.sent) (sym b.1) ∙ (plugin-serves plugin v.page.sent b.0).is ∙ ap (λ (q : SideState PluginControl). map (reply_message plugin) q.examined) b.1 in
+    let serves_all : w.plugin.sent ≡ map (reply_message plugin) w.plugin.examined = ap (λ q. q.sent) (sym b.1) ∙ (plugin-serves plugin v.page.sent b.0).sent ∙ ap (λ (q : SideState PluginControl). map (reply_message plugin) q.examined) b.1 in
     let came : Extends w.plugin.examined v.page.sent = subst (λ (q : SideState PluginControl). Extends q.examined v.page.sent) b.1 (endpoint-examined (plugin_plans plugin) v.page.sent b.0 plugin_start) in
     let begun_by = subst (λ (q : SideState PageControl). Extends w.plugin.examined q.sent) (sym further) came in
-    (page-honest page plugin w.plugin.sent w.plugin.examined (suc a.0) serves_all begun_by, plugin-honest plugin w.page.sent (subst (λ (q : SideState PageControl). AreCalls q.sent) a.1 (page-paced page w.plugin.sent a.0).are_calls))
+    record { turns = a.0; follows = a.1; answers = record { examined = w.plugin.examined; turns = suc a.0; are = serves_all; begins = begun_by } }
+
+pub calls-in-turn : (page : Page) (plugin : Plugin) (rounds : ℕ) → let w = machine_run (page_plans page) (plugin_plans plugin) None None rounds (both_start (page_start page) plugin_start) in AreCallsInTurn plugin plugin_start w.page.sent
+calls-in-turn page plugin rounds =
+    let a = machine-answered page plugin rounds in
+    subst (λ (q : SideState PageControl). AreCallsInTurn plugin plugin_start q.sent) a.follows (page-stands page plugin (machine page plugin rounds).plugin.sent a.turns a.answers).calls
+
+pub honest : (page : Page) (plugin : Plugin) (rounds : ℕ) → let w = machine_run (page_plans page) (plugin_plans plugin) None None rounds (both_start (page_start page) plugin_start) in RefusesNone (page_plans page) w.plugin.sent (at_start (page_start page)) × RefusesNone (plugin_plans plugin) w.page.sent (at_start plugin_start)
+honest page plugin rounds =
+    let w = machine page plugin rounds in
+    (page-honest page plugin w.plugin.sent (machine-answered page plugin rounds).answers, plugin-honest plugin w.page.sent (calls-in-turn page plugin rounds))

@@ -1,8 +1,14 @@
 pub mod WorkedRows
+pub mod PluginRows
 pub mod Alone
 pub mod Gated
 pub mod Cut
 pub mod Lost
+pub mod LiveInstances
+pub mod PagePace
+pub mod PluginServes
+pub mod CallsInTurn
+pub mod CallFormat
 pub mod Honest
 pub mod Replies
 pub mod FewCalls

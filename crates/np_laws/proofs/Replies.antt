@@ -8,15 +8,20 @@ use Rattle.np_model.specs.declared.message.Depth.{Depth}
 use Rattle.np_model.specs.declared.message.Message.{Message}
 use Rattle.np_model.specs.declared.page.Stage.{Stage}
 use Rattle.np_model.specs.declared.page.Stage.TheVariants.{Begin, Ready, Awaiting, Unanswered, Ended}
-use Rattle.np_model.specs.Encoding.{KeepsKind, IsTyped}
+use Rattle.np_model.specs.Script.{IsWellFormed}
+use Rattle.np_model.specs.Encoding.{KeepsKind, IsTyped, AreMessages}
 use Rattle.np_model.specs.Side.{SideState, at_start}
 use Rattle.np_model.specs.Run.{Plans, endpoint_run, Machine, Side, OfPage, OfPlugin, page_turn, plugin_turn, run, machine_run}
 use Rattle.np_model.specs.PagePlan.{PageControl, page_plans, page_start, is_reply}
-use Rattle.np_model.specs.PluginPlan.{Plugin, PluginControl, reply_to, plugin_plans, plugin_start}
-use Rattle.np_laws.specs.Laws.{both_start, IsReply, AreReplies, open_calls}
+use Rattle.np_model.specs.declared.script.Plugin.{Plugin}
+use Rattle.np_model.specs.PluginPlan.{PluginControl, reply_to, plugin_plans, plugin_start, reply_message}
+use Rattle.np_laws.specs.Laws.{both_start, IsReply, AreReplies, AreCallsInTurn, open_calls}
 use Rattle.np_laws.proofs.Alone.{Extends, extends-length, first-extends, endpoint-examined}
 use Rattle.np_laws.proofs.Gated.{endpoint-follows}
-use Rattle.np_laws.proofs.Honest.{level_1, AreCalls, PacedAt, page-paced, reply_message, plugin-serves}
+use Rattle.np_laws.proofs.PagePace.{level_1, AreCalls, PacedAt, page-paced}
+use Rattle.np_laws.proofs.PluginServes.{plugin-serves}
+use Rattle.np_laws.proofs.CallFormat.{page-formed}
+use Rattle.np_laws.proofs.Honest.{calls-in-turn}
 
 -- ---- rounds are turns in one order
 
@@ -60,7 +65,6 @@ reply-kept plugin (payloads.Code error) = (tt, tt)
 reply-kept plugin payloads.Done = (tt, tt)
 
 is-reply : (plugin : Plugin) (m : Message) → m.depth ≡ level_1 → IsReply (reply_message plugin m)
-unfolding reply_message
 is-reply plugin m d =
     let level : m.depth.level ≡ 1 = ap (λ (x : Depth). x.level) d in
     let above : 0 < m.depth.level = omega (arith, level) in
@@ -95,12 +99,20 @@ plugin-replies page plugin rounds =
     let f = machine-follows (page_plans page) (plugin_plans plugin) (at_start (page_start page)) (at_start plugin_start) rounds in
     let a = f.0 in
     let b = f.1 in
-    let serves_all : w.plugin.sent ≡ map (reply_message plugin) w.plugin.examined = ap (λ q. q.sent) (sym b.1) ∙ (plugin-serves plugin w.page.sent b.0).is ∙ ap (λ (q : SideState PluginControl). map (reply_message plugin) q.examined) b.1 in
+    let serves_all : w.plugin.sent ≡ map (reply_message plugin) w.plugin.examined = ap (λ q. q.sent) (sym b.1) ∙ (plugin-serves plugin w.page.sent b.0).sent ∙ ap (λ (q : SideState PluginControl). map (reply_message plugin) q.examined) b.1 in
     let came : Extends w.plugin.examined w.page.sent = subst (λ (q : SideState PluginControl). Extends q.examined w.page.sent) b.1 (endpoint-examined (plugin_plans plugin) w.page.sent b.0 plugin_start) in
     let calls : AreCalls w.page.sent = subst (λ (q : SideState PageControl). AreCalls q.sent) a.1 (page-paced page w.plugin.sent a.0).are_calls in
     let count : length w.plugin.sent ≡ length w.plugin.examined = ap length serves_all ∙ length-map w.plugin.examined (reply_message plugin) in
     let few = extends-length w.plugin.examined w.page.sent came in
     (subst (λ l. AreReplies l) (sym serves_all) (are-replies plugin w.plugin.examined (calls-begin w.plugin.examined w.page.sent came calls)), omega (arith, count, few))
+
+-- ---- calls
+
+pub page-calls : (page : Page) (plugin : Plugin) (rounds : ℕ) → let w = machine_run (page_plans page) (plugin_plans plugin) None None rounds (both_start (page_start page) plugin_start) in AreCallsInTurn plugin plugin_start w.page.sent × (IsWellFormed page → AreMessages w.page.sent)
+page-calls page plugin rounds =
+    let w = machine_run (page_plans page) (plugin_plans plugin) None None rounds (both_start (page_start page) plugin_start) in
+    let a = (machine-follows (page_plans page) (plugin_plans plugin) (at_start (page_start page)) (at_start plugin_start) rounds).0 in
+    (calls-in-turn page plugin rounds, λ formed. subst (λ (q : SideState PageControl). AreMessages q.sent) a.1 (page-formed page w.plugin.sent a.0 formed).messages)
 
 -- ---- the page's pace
 

@@ -1,16 +1,21 @@
 -- The laws of runs. Each is the contract of a function of src/laws.rt.
-use Rattle.std.specs.Prelude.{◌≡◌, ℕ, ◌+◌, ◌*◌, ◌≤◌, List, [], ◌∷◌, ◌++◌, length, take, true, false, Some, None}
+use Rattle.std.specs.Prelude.{◌≡◌, ℕ, ◌+◌, ◌*◌, ◌≤◌, List, [], ◌∷◌, ◌++◌, length, take, map, Bool, true, false, Some, None}
+use Rattle.std.specs.List.{flat_map, list_all}
 use Rattle.np_model.specs.declared.message.Message.{Message}
+use Rattle.np_model.specs.declared.message.Payload.{Payload}
+use Rattle.np_model.specs.declared.message.Payload.TheVariants.{New}
 use Rattle.np_model.specs.declared.refusal.Rule.{Rule}
 use Rattle.np_model.specs.declared.script.Page.{Page}
 use Rattle.np_model.specs.declared.page.Outstanding.{Outstanding}
 use Rattle.np_model.specs.declared.page.Stage.{Stage}
 use Rattle.np_model.specs.declared.page.Stage.TheVariants.{Begin, Ready, Awaiting, Unanswered, Ended}
-use Rattle.np_model.specs.Encoding.{KeepsFormat, IsTyped}
+use Rattle.np_model.specs.Script.{IsWellFormed}
+use Rattle.np_model.specs.Encoding.{KeepsFormat, IsTyped, AreMessages}
 use Rattle.np_model.specs.Side.{SideState, at_start}
 use Rattle.np_model.specs.Run.{Plans, Awaits, Refuses, Side, Machine, next_message, endpoint_run, run, machine_run, RestsAt, PageRests, PluginRests}
 use Rattle.np_model.specs.PagePlan.{PageControl, page_plans, page_start, is_reply, lose}
-use Rattle.np_model.specs.PluginPlan.{Plugin, PluginControl, plugin_plans, plugin_start}
+use Rattle.np_model.specs.declared.script.Plugin.{Plugin}
+use Rattle.np_model.specs.PluginPlan.{PluginControl, plugin_plans, plugin_start, may_come, control_after_call, lines_of_call, reply_message}
 
 -- both sides before anything was done
 abbrev pub both_start : PageControl → PluginControl → Machine PageControl PluginControl
@@ -118,3 +123,65 @@ PacedLaw = (page : Page) (got : List Message) (turns : ℕ) →
 abbrev pub FewCallsLaw : Type 0
 FewCallsLaw = (page : Page) (got : List Message) (turns : ℕ) →
     length (endpoint_run (page_plans page) got turns (at_start (page_start page))).sent ≤ 2 * length page.commands + 2
+
+-- ---- the plug-in's side
+
+-- With more messages the plug-in alone comes to all that it came to, perhaps in another number of turns.
+abbrev pub PluginMoreMessagesLaw : Type 0
+PluginMoreMessagesLaw = (Q : Plans PluginControl) (got more : List Message) (turns : ℕ) (from : SideState PluginControl) →
+    (k : ℕ) × (endpoint_run Q (got ++ more) k from ≡ endpoint_run Q got turns from)
+
+-- What the plug-in rests at in the run that only the first j messages of the page reach is what it rests at alone with these.
+abbrev pub PluginAloneLaw : Type 0
+PluginAloneLaw = (P : Plans PageControl) (Q : Plans PluginControl) (c : PageControl) (d : PluginControl) (rounds j : ℕ) (q : SideState PluginControl) →
+    let w = machine_run P Q None None rounds (both_start c d) in
+    j ≤ length w.page.sent → PluginRests P Q (both_start c d) j q → RestsAt Q (take j w.page.sent) (at_start d) q
+
+-- What the plug-in alone has printed and sent by some turn, when only the first messages have come, is a prefix of what it printed and sent where it rests with all of them.
+abbrev pub PluginJournalLaw : Type 0
+PluginJournalLaw = (Q : Plans PluginControl) (got more : List Message) (turns : ℕ) (d : PluginControl) (q : SideState PluginControl) →
+    RestsAt Q (got ++ more) (at_start d) q →
+    ((line : List ℕ) × (q.journal ≡ (endpoint_run Q got turns (at_start d)).journal ++ line))
+    × ((messages : List Message) × (q.sent ≡ (endpoint_run Q got turns (at_start d)).sent ++ messages))
+
+-- The plug-in alone rests at one place.
+abbrev pub PluginOneRestLaw : Type 0
+PluginOneRestLaw = (Q : Plans PluginControl) (got : List Message) (d : PluginControl) (p q : SideState PluginControl) →
+    RestsAt Q got (at_start d) p → RestsAt Q got (at_start d) q → p ≡ q
+
+-- each is a call of level 1, without a task's mark, that may come after those before it
+abbrev pub AreCallsInTurn : Plugin → PluginControl → List Message → Type 0
+AreCallsInTurn plugin c [] = Unit {0}
+AreCallsInTurn plugin c (m ∷ messages) =
+    ((may_come c c.stage m.body ≡ true) × (is_reply m.body ≡ false) × (m.depth.level ≡ 1) × (m.depth.task ≡ false))
+    × AreCallsInTurn plugin (control_after_call plugin c m.body) messages
+
+-- In the run of a page and a plug-in the page makes calls alone, each of which may come after those before it; those of a well-formed page are messages of the format.
+abbrev pub CallsLaw : Type 0
+CallsLaw = (page : Page) (plugin : Plugin) (rounds : ℕ) →
+    let w = machine_run (page_plans page) (plugin_plans plugin) None None rounds (both_start (page_start page) plugin_start) in
+    AreCallsInTurn plugin plugin_start w.page.sent × (IsWellFormed page → AreMessages w.page.sent)
+
+-- where these calls lead the plug-in
+abbrev pub control_after_calls : Plugin → PluginControl → List Message → PluginControl
+control_after_calls plugin c [] = c
+control_after_calls plugin c (m ∷ messages) = control_after_calls plugin (control_after_call plugin c m.body) messages
+
+-- The plug-in alone stands where the calls that it examined lead; it sent the reply to each and printed the lines of each.
+abbrev pub ServesLaw : Type 0
+ServesLaw = (plugin : Plugin) (got : List Message) (turns : ℕ) →
+    let q = endpoint_run (plugin_plans plugin) got turns (at_start plugin_start) in
+    (q.control ≡ control_after_calls plugin plugin_start q.examined)
+    × (q.sent ≡ map (reply_message plugin) q.examined)
+    × (q.journal ≡ flat_map (λ m. lines_of_call plugin m.body) q.examined)
+
+-- not NPP_New with attributes
+abbrev pub has_no_attributes : Payload → Bool
+has_no_attributes (New instance mode mime []) = true
+has_no_attributes (New instance mode mime (name ∷ rest)) = false
+has_no_attributes body = true
+
+-- The page alone makes NPP_New without attributes.
+abbrev pub NoAttributesLaw : Type 0
+NoAttributesLaw = (page : Page) (got : List Message) (turns : ℕ) →
+    list_all (λ m. has_no_attributes m.body) (endpoint_run (page_plans page) got turns (at_start (page_start page))).sent ≡ true

@@ -1,4 +1,4 @@
-ghost use Rattle.np_laws.specs.Laws.{EndpointLaw, CutLaw, PluginCutLaw, MoreMessagesLaw, OneRestLaw, HonestLaw, JournalLaw, LostLaw, AloneLaw, RoundsLaw, RepliesLaw, PacedLaw, FewCallsLaw};
+ghost use Rattle.np_laws.specs.Laws.{EndpointLaw, CutLaw, PluginCutLaw, MoreMessagesLaw, OneRestLaw, HonestLaw, JournalLaw, LostLaw, AloneLaw, RoundsLaw, RepliesLaw, PacedLaw, FewCallsLaw, PluginMoreMessagesLaw, PluginAloneLaw, PluginJournalLaw, PluginOneRestLaw, CallsLaw, ServesLaw, NoAttributesLaw};
 
 /// One side alone, given the other side's messages, is that side of the machine, in whatever order the
 /// two sides take turns and whatever they do.
@@ -67,4 +67,41 @@ pub fn paced_law()
 /// The page alone makes few calls: at most two for each command, and two more.
 pub fn few_calls_law()
     ensures law { FewCallsLaw }
+{}
+
+/// With more messages the plug-in alone comes to all that it came to.
+pub fn plugin_more_messages_law()
+    ensures law { PluginMoreMessagesLaw }
+{}
+
+/// What the plug-in of the run rests at that only the first messages of the page reach is what the
+/// plug-in alone rests at with these messages.
+pub fn plugin_alone_law()
+    ensures law { PluginAloneLaw }
+{}
+
+/// What the plug-in printed and sent so far stays: more messages only add lines and messages behind them.
+pub fn plugin_journal_law()
+    ensures law { PluginJournalLaw }
+{}
+
+/// There is one rest of the plug-in alone.
+pub fn plugin_one_rest_law()
+    ensures law { PluginOneRestLaw }
+{}
+
+/// In the run of a page and a plug-in the page makes calls alone, each of which may come where the
+/// earlier ones have led the plug-in.
+pub fn calls_law()
+    ensures law { CallsLaw }
+{}
+
+/// What the plug-in alone sent and printed, and where it stands, follow from the calls that it examined.
+pub fn serves_law()
+    ensures law { ServesLaw }
+{}
+
+/// The page alone makes NPP_New without attributes.
+pub fn no_attributes_law()
+    ensures law { NoAttributesLaw }
 {}

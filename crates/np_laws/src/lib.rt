@@ -4,8 +4,10 @@
 mod laws;
 
 pub use laws::{
-    alone_law, cut_law, endpoint_law, few_calls_law, honest_law, journal_law, lost_law,
-    more_messages_law, one_rest_law, paced_law, plugin_cut_law, replies_law, rounds_law,
+    alone_law, calls_law, cut_law, endpoint_law, few_calls_law, honest_law, journal_law, lost_law,
+    more_messages_law, no_attributes_law, one_rest_law, paced_law, plugin_alone_law,
+    plugin_cut_law, plugin_journal_law, plugin_more_messages_law, plugin_one_rest_law, replies_law,
+    rounds_law, serves_law,
 };
 
 #[cfg(test)]

@@ -16,4 +16,11 @@ fn each_law_stands(_rt: HostRuntime) {
     replies_law();
     paced_law();
     few_calls_law();
+    plugin_more_messages_law();
+    plugin_alone_law();
+    plugin_journal_law();
+    plugin_one_rest_law();
+    calls_law();
+    serves_law();
+    no_attributes_law();
 }

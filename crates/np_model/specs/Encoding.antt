@@ -1,5 +1,5 @@
 -- The bytes of a message. (This project's own.)
-use Rattle.std.specs.Prelude.{◌≡◌, ℕ, ◌+◌, ◌*◌, ◌/◌, ◌<◌, ◌≤◌, List, [], ◌∷◌, ◌++◌, length, Bool, true, if◌then◌else◌}
+use Rattle.std.specs.Prelude.{◌≡◌, ℕ, ◌+◌, ◌/◌, ◌<◌, ◌≤◌, List, [], ◌∷◌, ◌++◌, length, true, if◌then◌else◌}
 use Rattle.std.specs.Int.{w16, w32, to_be_bytes}
 use Rattle.np_values.specs.NpError.{code_of}
 use Rattle.np_values.specs.Text.{is_text}
@@ -82,3 +82,8 @@ IsTyped Turn = Unit {0}
 IsTyped Shutdown = Unit {0}
 IsTyped (Code error) = Unit {0}
 IsTyped Done = Unit {0}
+
+-- each is a message of the format
+abbrev pub AreMessages : List Message → Type 0
+AreMessages [] = Unit {0}
+AreMessages (m ∷ messages) = (KeepsFormat m × IsTyped m.body) × AreMessages messages

@@ -1,4 +1,4 @@
--- The lines of the host's journal, and its end line. (This project's own.)
+-- The lines of both journals, and the end lines. (This project's own.)
 use Rattle.std.specs.Prelude.{ℕ, List, [], ◌∷◌, ◌++◌, decimal, codes}
 use Rattle.np_values.specs.declared.error.NpError.{NpError}
 use Rattle.np_values.specs.NpError.{code_of}
@@ -18,6 +18,10 @@ void_line number = result_line number (codes "true void")
 
 abbrev pub false_line : ℕ → List ℕ
 false_line number = result_line number (codes "false")
+
+-- the line of the handler that is run for NPP_New of an instance
+abbrev pub new_line : ℕ → List ℕ
+new_line instance = codes "> inst:" ++ decimal instance ++ codes " new" ++ 10 ∷ []
 
 -- the last line, of a status
 abbrev pub end_line : ℕ → List ℕ

@@ -1,11 +1,16 @@
 pub mod Script
+pub mod PluginScript
 pub mod Encoding
 pub mod Decoding
+pub mod Faults
 pub mod Side
 pub mod Run
+pub mod Steps
+pub mod Refused
 pub mod Journal
 pub mod PagePlan
 pub mod PluginPlan
 pub mod HostRun
+pub mod PluginRun
 pub use Rattle.np_values.specs.Text
 pub use Rattle.np_values.specs.NpError

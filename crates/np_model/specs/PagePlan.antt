@@ -17,7 +17,6 @@ use Rattle.np_model.specs.declared.page.PeerState.{PeerState}
 use Rattle.np_model.specs.declared.page.PeerState.TheVariants.{Compatible, Incompatible, Lost}
 use Rattle.np_model.specs.declared.page.Phase.{Phase}
 use Rattle.np_model.specs.declared.page.Phase.TheVariants.{Absent, Live, Destroying, Dead}
-use Rattle.np_model.specs.declared.refusal.Rule.{Rule}
 use Rattle.np_model.specs.declared.refusal.Rule.TheVariants.{WrongKind, Unmatched}
 use Rattle.np_model.specs.Encoding.{kind_of, depth_byte}
 use Rattle.np_model.specs.Side.{SideState, Micro, Control, Send, Deliver, Print}

@@ -2,7 +2,7 @@
 use Rattle.std.specs.Prelude.{◌≡◌, ℕ, zero, suc, ◌≤◌, List, [], ◌∷◌, length, take, drop, Option, Some, None}
 use Rattle.np_model.specs.declared.message.Message.{Message}
 use Rattle.np_model.specs.declared.refusal.Rule.{Rule}
-use Rattle.np_model.specs.Side.{SideState, Micro, run_steps, examine, at_start}
+use Rattle.np_model.specs.Side.{SideState, Micro, run_steps, examine}
 
 -- a side acts, awaits a message of the other side, or has ended
 pub data Pace : Type 0 where

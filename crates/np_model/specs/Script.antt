@@ -1,5 +1,5 @@
 -- The grammar of page scripts. (This project's own.)
-use Rattle.std.specs.Prelude.{◌≡◌, ℕ, zero, suc, ◌+◌, ◌-◌, ◌*◌, ◌<◌, List, [], ◌∷◌, ◌++◌, length, drop, Bool, true, false, if◌then◌else◌, nat_lt, nat_le, ◌==◌, ◌&&◌, ◌||◌, not, Option, Some, None, codes, bytes_eq}
+use Rattle.std.specs.Prelude.{◌≡◌, ℕ, ◌+◌, ◌-◌, ◌*◌, ◌<◌, List, [], ◌∷◌, length, drop, Bool, true, false, if◌then◌else◌, nat_lt, nat_le, ◌==◌, ◌&&◌, ◌||◌, not, Option, Some, None, codes, bytes_eq}
 use Rattle.std.specs.List.{prefix_len, position_or_len, before_first, list_all}
 use Rattle.std.specs.Str.{is_utf8}
 use Rattle.np_values.specs.Text.{is_text}
@@ -134,16 +134,18 @@ command_of l =
     else if bytes_eq (word_of l) (codes "create") then create_of (behind_word l)
     else None
 
-unfoldable pub head_of : List ℕ → Option (ℕ × ℕ)
-head_of l = do
-  page ← guard (bytes_eq (word_of l) (codes "page"))
+-- the version of a line of this word and two numbers: major, minor
+unfoldable pub version_of : List ℕ → List ℕ → Option (ℕ × ℕ)
+version_of word l = do
+  first ← guard (bytes_eq (word_of l) word)
   major ← number_of 255 (word_of (behind_word l))
   minor ← number_of 255 (word_of (behind_word (behind_word l)))
   end ← guard (ended (behind_word (behind_word (behind_word l))))
   Some (major, minor)
 
-unfoldable pub is_do : List ℕ → Bool
-is_do l = bytes_eq (word_of l) (codes "do") && ended (behind_word l)
+-- a line that is this word alone
+unfoldable pub is_word_alone : List ℕ → List ℕ → Bool
+is_word_alone word l = bytes_eq (word_of l) word && ended (behind_word l)
 
 abbrev pub commands_of : List (List ℕ) → Option (List Command)
 commands_of [] = Some []
@@ -174,8 +176,8 @@ unfoldable pub page_of_lines : List (List ℕ) → Option Page
 page_of_lines [] = None
 page_of_lines (h ∷ []) = None
 page_of_lines (h ∷ d ∷ ls) = do
-  head ← head_of h
-  begins ← guard (is_do d)
+  head ← version_of (codes "page") h
+  begins ← guard (is_word_alone (codes "do") d)
   body_of head ls
 
 abbrev pub page_in : List ℕ → Option Page
@@ -192,3 +194,15 @@ abbrev pub commands_fit : ℕ → List Command → Bool
 commands_fit begun [] = nat_le begun 255
 commands_fit begun (Create mime mode ∷ cs) = nat_le 1 mode && (nat_le mode 2 && commands_fit (begun + 1) cs)
 commands_fit begun (Turn ∷ cs) = commands_fit begun cs
+
+-- a text value has at most 2,048 bytes of UTF-8
+abbrev pub has_text : Command → Bool
+has_text (Create mime mode) = is_text mime
+has_text Turn = true
+
+-- the numbers are bytes, the texts are text values, and the commands fit
+pub record IsWellFormed (page : Page) : Type 0 where
+  pub major : page.major < 256
+  pub minor : page.minor < 256
+  pub texts : list_all has_text page.commands ≡ true
+  pub fits : commands_fit 0 page.commands ≡ true

@@ -3,6 +3,7 @@
 
 mod message;
 mod page;
+mod plugin;
 mod quoted;
 mod refusal;
 mod script;
@@ -10,7 +11,8 @@ mod wire;
 
 pub use message::{Depth, Message, Payload, Texts};
 pub use page::{Outstanding, PeerState, Phase, Stage};
+pub use plugin::PluginStage;
 pub use quoted::{QuotedState, QuotedStep};
 pub use refusal::{Refusal, Rule};
-pub use script::{Command, Commands, Page};
+pub use script::{Command, Commands, Page, Plugin};
 pub use wire::{Extent, WireError, WireKind};

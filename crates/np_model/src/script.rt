@@ -19,3 +19,12 @@ pub struct Page {
     pub minor: u8,
     pub commands: Commands,
 }
+
+/// A plug-in script: the version of the plug-in interface that the plug-in speaks, and its handler.
+#[derive(Clone, Copy, Debug, PartialEq, Eq)]
+pub struct Plugin {
+    pub major: u8,
+    pub minor: u8,
+    /// What the handler `new` returns, which is run for NPP_New; `None` without that handler.
+    pub new_handler: Option<i32>,
+}

@@ -1,5 +1,6 @@
 -- Which refusal answers what stands at the front of the bytes. (This project's own.)
 use Rattle.std.specs.Prelude.{◌≡◌, ℕ}
+use Rattle.np_model.specs.declared.message.Message.{Message}
 use Rattle.np_model.specs.declared.refusal.Rule.{Rule}
 use Rattle.np_model.specs.declared.refusal.Rule.TheVariants as rules
 use Rattle.np_model.specs.declared.refusal.Refusal.{Refusal}
@@ -8,7 +9,6 @@ use Rattle.np_model.specs.declared.wire.WireKind.TheVariants.{Length, Item, Rest
 use Rattle.np_model.specs.declared.wire.WireError.{WireError}
 use Rattle.np_model.specs.Decoding.{Front, Partial, Whole, Bad}
 use Rattle.np_model.specs.Run.{Meeting, Accepts, Refuses}
-use Rattle.np_model.specs.PagePlan.{PageControl, meet_plan}
 
 -- the rule that a fault of the wire format breaks
 abbrev pub rule_of : WireKind → Rule
@@ -21,12 +21,12 @@ abbrev pub refusal_of : WireError → Refusal
 refusal_of e = record { at = e.at; rule = rule_of e.kind; first = e.first; second = e.second }
 
 -- the refusal of a message that begins at this place, where its plan refuses it
-abbrev pub RefusedMeeting : ℕ → Refusal → Meeting PageControl → Type 0
+abbrev pub RefusedMeeting : {C : Type 0} → ℕ → Refusal → Meeting C → Type 0
 RefusedMeeting at r (Accepts steps) = ⊥
 RefusedMeeting at r (Refuses rule first second) = r ≡ record { at = at; rule = rule; first = first; second = second }
 
--- the message at the front of these bytes, the first of which is at this place, is refused so
-abbrev pub RefusedFront : PageControl → ℕ → Refusal → Front → Type 0
-RefusedFront c at r Partial = ⊥
-RefusedFront c at r (Whole m rest) = RefusedMeeting at r (meet_plan c m)
-RefusedFront c at r (Bad e) = r ≡ refusal_of e
+-- what stands at the front of bytes, the first of which is at this place, is refused so by a side that meets messages in this way
+abbrev pub RefusedBy : {C : Type 0} → (Message → Meeting C) → ℕ → Refusal → Front → Type 0
+RefusedBy meet at r Partial = ⊥
+RefusedBy meet at r (Whole m rest) = RefusedMeeting at r (meet m)
+RefusedBy meet at r (Bad e) = r ≡ refusal_of e
