@@ -7,8 +7,9 @@ use Rattle.np_model.specs.declared.message.Message.{Message}
 use Rattle.np_model.specs.Decoding.{Front, Whole, front, front_sized}
 use Rattle.np_wire.specs.declared.error.FeedError.{FeedError}
 use Rattle.np_wire.specs.declared.error.FeedError.TheVariants.{Wire, NoMemory}
-use Rattle.np_wire.specs.Feed.{FrontIs, SizedIs, FrontGives, SizedGives, IsEncoded}
+use Rattle.np_wire.specs.Feed.{FrontIs, SizedIs, FrontGives, SizedGives, IsEncoded, RefusesFirstFault}
 use Rattle.np_wire.proofs.Decoded.{AreBytes, front_decoded}
+use Rattle.np_wire.proofs.FirstFaults.{refused_fault}
 
 behind : (seen : Front) (bytes : List ℕ) (r : Result (Option (Message × ℕ)) FeedError) → SizedIs seen (drop 4 bytes) r → FrontIs seen bytes r
 behind seen bytes (Ok None) h = h
@@ -29,3 +30,8 @@ front_found at bytes (Ok None) fit h = tt
 front_found at bytes (Ok (Some m)) fit h = front_decoded at bytes m.0 (drop m.1 bytes) fit h
 front_found at bytes (Err (Wire e)) fit h = tt
 front_found at bytes (Err NoMemory) fit h = tt
+
+pub front_refuses : (at : ℕ) (bytes : List ℕ) (r : Result (Option (Message × ℕ)) FeedError) → FrontGives at bytes r → RefusesFirstFault at bytes r
+front_refuses at bytes (Ok next) h = tt
+front_refuses at bytes (Err (Wire e)) h = refused_fault at bytes e h
+front_refuses at bytes (Err NoMemory) h = tt

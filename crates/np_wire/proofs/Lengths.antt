@@ -22,13 +22,13 @@ use Rattle.np_wire.proofs.Encoded.{body_short}
 
 -- ---- what stands at the front, by cases on the length
 
-abbrev partial : Front
+abbrev pub partial : Front
 partial = Partial
 
-abbrev whole : Message → List ℕ → Front
+abbrev pub whole : Message → List ℕ → Front
 whole m rest = Whole m rest
 
-abbrev bad : WireError → Front
+abbrev pub bad : WireError → Front
 bad e = Bad e
 
 is_out : (n : ℕ) → ((n < 4) ⊎ (32768 < n)) → (ltb n 4 || ltb 32768 n) ≡ true
@@ -57,13 +57,13 @@ front_there at bytes low high there =
     rw (le-ltb (length bytes) 4 (omega arith), is_in (length_of bytes) low high, le-ltb (length (drop 4 bytes)) (length_of bytes) (omega (arith, length-drop 4 bytes))) refl
 
 -- the four cases
-data Case (bytes : List ℕ) : Type 0 where
+pub data Case (bytes : List ℕ) : Type 0 where
   few : length bytes < 4 → Case bytes
   out : HasBadLength bytes → Case bytes
   cut : 4 ≤ length bytes → 4 ≤ length_of bytes → length_of bytes ≤ 32768 → length bytes < 4 + length_of bytes → Case bytes
   there : 4 ≤ length_of bytes → length_of bytes ≤ 32768 → 4 + length_of bytes ≤ length bytes → Case bytes
 
-case_of : (bytes : List ℕ) → Case bytes
+pub case_of : (bytes : List ℕ) → Case bytes
 case_of bytes =
     let n = length_of bytes in
     elim (cases_lt (length bytes) 4) [

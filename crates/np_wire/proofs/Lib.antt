@@ -3,3 +3,8 @@ pub mod Encoded
 pub mod Decoded
 pub mod Fronts
 pub mod Lengths
+pub mod Formats
+pub mod Agreement
+pub mod ItemAgreement
+pub mod BodyAgreement
+pub mod FirstFaults

@@ -3,6 +3,7 @@ use Rattle.std.specs.Prelude.{◌≡◌, ℕ, ◌+◌, ◌-◌, ◌≤◌, List,
 use Rattle.np_model.specs.declared.message.Message.{Message}
 use Rattle.np_model.specs.Encoding.{encoding, KeepsFormat, IsTyped}
 use Rattle.np_model.specs.Decoding.{Front, Partial, Whole, Bad, front, front_sized}
+use Rattle.np_model.specs.Faults.{IsFirstFault}
 use Rattle.np_wire.specs.declared.error.FeedError.{FeedError}
 use Rattle.np_wire.specs.declared.error.FeedError.TheVariants.{Wire, NoMemory}
 
@@ -17,6 +18,12 @@ NextGives old new (Ok None) = (front old.consumed old.left ≡ Partial) × (new 
 NextGives old new (Ok (Some m)) = (front old.consumed old.left ≡ Whole m new.left) × (new.consumed + length new.left ≡ old.consumed + length old.left)
 NextGives old new (Err (Wire e)) = (front old.consumed old.left ≡ Bad e) × (new ≡ old)
 NextGives old new (Err NoMemory) = new ≡ old
+
+-- a refusal is for the first fault of these bytes
+abbrev pub RefusesFirstFault : {X : Type 0} → ℕ → List ℕ → Result X FeedError → Type 0
+RefusesFirstFault at bytes (Ok x) = Unit {0}
+RefusesFirstFault at bytes (Err (Wire e)) = IsFirstFault at bytes e
+RefusesFirstFault at bytes (Err NoMemory) = Unit {0}
 
 -- a message with its number of bytes is what stands at the front
 abbrev pub FrontIs : Front → List ℕ → Result (Option (Message × ℕ)) FeedError → Type 0

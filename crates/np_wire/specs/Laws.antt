@@ -1,9 +1,12 @@
--- When bytes are awaited, and when their length is refused.
+-- When bytes are awaited, when they are refused, and which bytes are those of messages.
 use Rattle.std.specs.Prelude.{◌≡◌, ℕ, ◌+◌, ◌<◌, ◌≤◌, ◌↔◌, ◌⊎◌, List, length, take}
 use Rattle.std.specs.Int.{w32, from_be_bytes}
 use Rattle.np_model.specs.declared.wire.WireKind.TheVariants.{Length}
 use Rattle.np_model.specs.declared.wire.WireError.{WireError}
+use Rattle.np_model.specs.declared.message.Message.{Message}
+use Rattle.np_model.specs.Encoding.{body_of, KeepsFormat, IsTyped}
 use Rattle.np_model.specs.Decoding.{Partial, Bad, front}
+use Rattle.np_model.specs.Faults.{message_format, IsItems, IsFirstFault}
 
 -- the first four bytes as a number
 abbrev pub length_of : List ℕ → ℕ
@@ -31,3 +34,19 @@ length_error at bytes = record { at = at; kind = Length; first = length_of bytes
 -- a bad length is refused, and no other one
 abbrev pub RefusesLengthExactly : ℕ → List ℕ → Type 0
 RefusesLengthExactly at bytes = IsLengthRefused at bytes ↔ HasBadLength bytes
+
+-- what bytes are refused for is their first fault
+abbrev pub RefusesOnlyFaults : ℕ → List ℕ → WireError → Type 0
+RefusesOnlyFaults at bytes e = front at bytes ≡ Bad e → IsFirstFault at bytes e
+
+-- bytes with a fault are refused for it
+abbrev pub RefusesEachFault : ℕ → List ℕ → WireError → Type 0
+RefusesEachFault at bytes e = IsFirstFault at bytes e → front at bytes ≡ Bad e
+
+-- the body of a message of the format has the format's items
+abbrev pub HasItems : Message → Type 0
+HasItems m = KeepsFormat m → IsTyped m.body → IsItems message_format (body_of m)
+
+-- the bytes are the body of a message of the format
+abbrev pub IsSomeBody : List ℕ → Type 0
+IsSomeBody bytes = (m : Message) × (bytes ≡ body_of m) × KeepsFormat m × IsTyped m.body

@@ -1,7 +1,7 @@
 //! The decoder of a stream: bytes in, whole messages out.
 
 ghost use Rattle.std.specs.Prelude.{◌≡◌, ◌+◌, ◌-◌, ◌<◌, ◌≤◌, ◌^◌, ◌++◌, [], drop, length, OnOk, OnErr, IfOk, IfSome};
-ghost use Rattle.np_wire.specs.Feed.{Fed, NextGives, FrontGives, SizedGives, IsEncoded};
+ghost use Rattle.np_wire.specs.Feed.{Fed, NextGives, RefusesFirstFault, FrontGives, SizedGives, IsEncoded};
 
 use crate::FeedError;
 use crate::reading::body;
@@ -60,6 +60,7 @@ impl Feed {
     pub fn next(&mut self) -> Result<Option<Message>, FeedError>
         ensures exact { NextGives self.old self.new result }
         ensures found { IfOk result (λ next. IfSome next (λ m. IsEncoded m self.old.left self.new.left)) }
+        ensures fault { RefusesFirstFault self.old.consumed self.old.left result }
     {
         match front(self.alloc, self.consumed, &self.bytes[self.start..])? {
             None => Ok(None),
@@ -97,6 +98,7 @@ fn front(alloc: Global, at: u64, bytes: &[u8]) -> Result<Option<(Message, usize)
     ensures front { FrontGives at bytes.now result }
     ensures size { IfOk result (λ next. IfSome next (λ m. m.1 ≤ length bytes.now)) }
     ensures found { IfOk result (λ next. IfSome next (λ m. IsEncoded m.0 bytes.now (drop m.1 bytes.now))) }
+    ensures fault { RefusesFirstFault at bytes.now result }
 {
     if bytes.len() < 4 {
         return Ok(None);

@@ -3,9 +3,11 @@
 ghost use Rattle.std.specs.Prelude.{◌≡◌, ◌<◌, ◌≢◌, ◌++◌, List, [], ℕ};
 ghost use Rattle.std.specs.List.{All};
 ghost use Rattle.np_model.specs.declared.message.Message.{Message};
+ghost use Rattle.np_model.specs.declared.wire.WireError.{WireError};
 ghost use Rattle.np_model.specs.Encoding.{encoding, KeepsFormat, IsTyped};
 ghost use Rattle.np_model.specs.Decoding.{front, Whole, Partial, Bad};
-ghost use Rattle.np_wire.specs.Laws.{WaitsExactly, RefusesLengthExactly, HasBadLength, length_error};
+ghost use Rattle.np_model.specs.Faults.{message_format, IsItems};
+ghost use Rattle.np_wire.specs.Laws.{WaitsExactly, RefusesLengthExactly, HasBadLength, length_error, RefusesOnlyFaults, RefusesEachFault, HasItems, IsSomeBody};
 
 /// What is encoded is read again, whatever follows.
 pub fn encoded_is_read_again()
@@ -32,4 +34,16 @@ pub fn partial_is_cut_short()
 pub fn length_is_refused()
     ensures exact { (at : ℕ) (bytes : List ℕ) → RefusesLengthExactly at bytes }
     ensures numbers { (at : ℕ) (bytes : List ℕ) → HasBadLength bytes → front at bytes ≡ Bad (length_error at bytes) }
+{}
+
+/// Bytes are refused exactly where they have a fault, and for the first one.
+pub fn fault_is_first()
+    ensures only { (at : ℕ) (bytes : List ℕ) (e : WireError) → RefusesOnlyFaults at bytes e }
+    ensures each { (at : ℕ) (bytes : List ℕ) (e : WireError) → RefusesEachFault at bytes e }
+{}
+
+/// The items by which faults are told are those of messages.
+pub fn items_are_of_messages()
+    ensures items { (m : Message) → HasItems m }
+    ensures messages { (bytes : List ℕ) → All (λ b. b < 256) bytes → IsItems message_format bytes → IsSomeBody bytes }
 {}

@@ -1,37 +1,12 @@
 //! The encoder.
 
 ghost use Rattle.std.specs.Prelude.{◌≡◌, ◌++◌, ◌+◌, ◌*◌, ◌≤◌, ◌<◌, length, OnOk, OnErr};
-ghost use Rattle.np_model.specs.Encoding.{KeepsFormat, KeepsKind, encoding, body_of, items_of, kind_of, depth_byte, text_item, text_items};
+ghost use Rattle.np_model.specs.Encoding.{KeepsFormat, KeepsKind, encoding, body_of, items_of, text_item, text_items};
 ghost use Rattle.np_wire.specs.Writing.{Extends};
 
-use np_model::{Depth, Message, Payload};
+use np_model::{Message, Payload};
 use np_values::{NoMemory, Text};
 use std::alloc::Global;
-
-fn kind(body: &Payload) -> u8
-    ensures { result ≡ kind_of body.now }
-{
-    match body {
-        Payload::Hello { .. } => 1,
-        Payload::New { .. } => 2,
-        Payload::Destroy { .. } => 3,
-        Payload::Turn => 5,
-        Payload::Shutdown => 12,
-        Payload::Code(_) => 69,
-        Payload::Done => 71,
-    }
-}
-
-fn byte_of_depth(depth: Depth) -> u8
-    requires { depth.level < 65 }
-    ensures { result ≡ depth_byte depth }
-{
-    if depth.task {
-        depth.level + 128
-    } else {
-        depth.level
-    }
-}
 
 // How many bytes the texts have, with their lengths.
 fn texts_len(texts: &[Text]) -> u32
@@ -121,8 +96,8 @@ fn push_message(out: &mut Vec<u8>, message: &Message) -> Result<(), NoMemory>
     ensures kept { Extends out.old.items out.new.items }
 {
     let len = 4 + items_len(&message.body);
-    let kind = kind(&message.body);
-    let depth = byte_of_depth(message.depth);
+    let kind = message.body.kind();
+    let depth = message.depth.byte();
     out.extend_from_slice(&len.to_be_bytes())?;
     out.extend_from_slice(&[kind, depth, 0, 0])?;
     push_items(out, &message.body)

@@ -1,7 +1,7 @@
 use Rattle.std.proofs.Common.{◌≡◌, take, arith}
 use Rattle.std.specs.Int.{w32, from_be_bytes}
 use Rattle.std.proofs.lemmas.Grind.{common_steps}
-use Rattle.np_wire.proofs.Fronts.{front_is, front_found}
+use Rattle.np_wire.proofs.Fronts.{front_is, front_found, front_refuses}
 use Rattle.np_wire.proofs.feed.front.Goals as goal
 
 pub returns-clause-front : goal.returns-clause-front
@@ -11,3 +11,6 @@ returns-clause-front c =
 
 pub returns-clause-found : goal.returns-clause-found
 returns-clause-found c = front_found c.args.at c.args.bytes.now c.sized.result (λ i. omega (arith, c.type_inv.bytes i)) (returns-clause-front c)
+
+pub returns-clause-fault : goal.returns-clause-fault
+returns-clause-fault c = front_refuses c.args.at c.args.bytes.now c.sized.result (returns-clause-front c)
