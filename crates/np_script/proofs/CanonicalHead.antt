@@ -6,7 +6,7 @@ use Rattle.std.specs.Prelude.{codes}
 use Rattle.std.proofs.lemmas.Bool.{and_parts, and_from, agree_below, agree_below_at}
 use Rattle.std.proofs.lemmas.Fmt.{decimal_nonempty}
 use Rattle.std.proofs.lemmas.Bool.Decides.{nat_tests}
-use Rattle.np_model.specs.Script.{◌>>=◌, guard, is_plain, skip_spaces, word_of, behind_word, number_of, head_of, ended}
+use Rattle.np_model.specs.Script.{◌>>=◌, guard, is_plain, skip_spaces, word_of, behind_word, number_of, version_of, ended}
 use Rattle.np_script.specs.Canonical.{head_line}
 use Rattle.np_script.proofs.QuotedBytes.{all-append, is_low, low_is_utf8}
 use Rattle.np_script.proofs.CanonicalWords.{in_word, skip_one, skip_whole, skip_word, first_word, behind_first, only_word, behind_only}
@@ -68,8 +68,8 @@ abbrev behind_page : List ℕ → Option (ℕ × ℕ)
 behind_page rest = number_of 255 (word_of rest) >>= (λ major. number_of 255 (word_of (behind_word rest)) >>= (λ minor. guard (ended (behind_word (behind_word rest))) >>= (λ end. Some (major, minor))))
 
 numbers_are_read : (major minor : ℕ) (first second : List ℕ) → list_all in_word first ≡ true → list_all in_word second ≡ true → 0 < length first
-    → number_of 255 first ≡ Some major → number_of 255 second ≡ Some minor → head_of (codes "page " ++ (first ++ (32 ∷ second))) ≡ Some (major, minor)
-unfolding head_of
+    → number_of 255 first ≡ Some major → number_of 255 second ≡ Some minor → version_of (codes "page") (codes "page " ++ (first ++ (32 ∷ second))) ≡ Some (major, minor)
+unfolding version_of
 numbers_are_read major minor first second whole last some e f =
     let line : List ℕ = first ++ (32 ∷ second) in
     let begin : skip_spaces (32 ∷ line) ≡ line = skip_one line ∙ skip_word first (32 ∷ second) whole some in
@@ -80,7 +80,7 @@ numbers_are_read major minor first second whole last some e f =
     (ap (λ (l : List ℕ). number_of 255 (word_of l)) behind ∙ ap (number_of 255) (only_word second last) ∙ f)
     (ap behind_word behind ∙ behind_only second last)
 
-pub head_is_read : (major minor : ℕ) → major < 256 → minor < 256 → head_of (head_line major minor) ≡ Some (major, minor)
+pub head_is_read : (major minor : ℕ) → major < 256 → minor < 256 → version_of (codes "page") (head_line major minor) ≡ Some (major, minor)
 head_is_read major minor low high =
     numbers_are_read major minor (decimal major) (decimal minor) (number_is_word major low).whole (number_is_word minor high).whole
     (decimal_nonempty major (omega arith)) (number_is_read major low) (number_is_read minor high)

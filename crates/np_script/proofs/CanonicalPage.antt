@@ -10,8 +10,8 @@ use Rattle.np_values.specs.Text.{is_text}
 use Rattle.np_model.specs.declared.script.Command.{Command}
 use Rattle.np_model.specs.declared.script.Command.TheVariants.{Create, Turn}
 use Rattle.np_model.specs.declared.script.Page.{Page}
-use Rattle.np_model.specs.Script.{is_plain, is_do, create_of, command_of, commands_of, creates, body_of, page_of_lines, page_of, commands_fit}
-use Rattle.np_script.specs.Canonical.{quoted, mode_word, head_line, command_line, canonical_text, has_text}
+use Rattle.np_model.specs.Script.{is_plain, is_word_alone, create_of, command_of, commands_of, creates, body_of, page_of_lines, page_of, commands_fit, has_text}
+use Rattle.np_script.specs.Canonical.{quoted, mode_word, head_line, command_line, canonical_text}
 use Rattle.np_script.proofs.QuotedBytes.{all-append, quoted_is_plain, quoted_is_utf8, is_low, low_is_utf8}
 use Rattle.np_script.proofs.Quoting.{quoted_reads}
 use Rattle.np_script.proofs.CanonicalHead.{head_is_read, head_counts}
@@ -81,8 +81,8 @@ body_is_read page fit valid =
     let few : leb (creates page.commands) 255 ≡ true = le-leb _ _ (omega (arith, few_creates 0 page.commands fit)) in
     rw (commands_are_read 0 page.commands fit valid, few) refl
 
-do_is_do : is_do (codes "do") ≡ true
-unfolding is_do
+do_is_do : is_word_alone (codes "do") (codes "do") ≡ true
+unfolding is_word_alone
 do_is_do = refl
 
 pub page_is_read : (page : Page) → page.major < 256 → page.minor < 256 → commands_fit 0 page.commands ≡ true

@@ -1,33 +1,33 @@
 -- What holds of each page that is read.
 use Rattle.std.proofs.Common.{◌≡◌, ℕ, ◌+◌, ◌≤◌, List, [], ◌∷◌, Bool, true, false, cond, leb, Option, Some, None, Result, Ok, Err, refl, subst, arith}
-use Rattle.std.specs.Prelude.{IfOk}
+use Rattle.std.specs.Prelude.{IfOk, codes}
 use Rattle.std.proofs.lemmas.Bool.{leb-true, le-leb}
 use Rattle.np_model.specs.declared.script.Command.{Command}
 use Rattle.np_model.specs.declared.script.Command.TheVariants.{Create, Turn}
 use Rattle.np_model.specs.declared.script.Page.{Page}
-use Rattle.np_model.specs.Script.{◌>>=◌, guard, mode_of, text_at, parted, ended, word_of, behind_word, create_of, command_of, commands_of, creates, body_of, head_of, is_do, page_of_lines, page_in, commands_fit}
+use Rattle.np_model.specs.Script.{◌>>=◌, guard, mode_of, text_at, parted, ended, word_of, behind_word, create_of, command_of, commands_of, creates, body_of, version_of, is_word_alone, page_of_lines, page_in, commands_fit}
 use Rattle.np_script.specs.declared.error.ParseError.{ParseError}
 use Rattle.np_script.specs.Gives.{Gives}
 
 -- what holds of the value, if there is one
-record Holds {A : Type 0} (P : A → Type 0) (o : Option A) : Type 0 where
-  at : (x : A) → o ≡ Some x → P x
+pub record Holds {A : Type 0} (P : A → Type 0) (o : Option A) : Type 0 where
+  pub at : (x : A) → o ≡ Some x → P x
 
-some : {A : Type 0} (P : A → Type 0) (x : A) → P x → Holds P (Some x)
+pub some : {A : Type 0} (P : A → Type 0) (x : A) → P x → Holds P (Some x)
 some P x h = record { at = λ y e. subst P (cc) h }
 
-none : {A : Type 0} (P : A → Type 0) → Holds P None
+pub none : {A : Type 0} (P : A → Type 0) → Holds P None
 none P = record { at = λ y e. absurd (cc) }
 
-behind : {A B : Type 0} (P : B → Type 0) (o : Option A) (f : A → Option B) → ((x : A) → o ≡ Some x → Holds P (f x)) → Holds P (o >>= f)
+pub behind : {A B : Type 0} (P : B → Type 0) (o : Option A) (f : A → Option B) → ((x : A) → o ≡ Some x → Holds P (f x)) → Holds P (o >>= f)
 behind P None f each = none P
 behind P (Some x) f each = each x refl
 
-by_cond : {A : Type 0} (P : A → Type 0) (b : Bool) (x y : Option A) → Holds P x → Holds P y → Holds P (cond b x y)
+pub by_cond : {A : Type 0} (P : A → Type 0) (b : Bool) (x y : Option A) → Holds P x → Holds P y → Holds P (cond b x y)
 by_cond P true x y p q = p
 by_cond P false x y p q = q
 
-guarded : (b : Bool) (u : Unit {0}) → guard b ≡ Some u → b ≡ true
+pub guarded : (b : Bool) (u : Unit {0}) → guard b ≡ Some u → b ≡ true
 guarded true u e = refl
 guarded false u e = absurd cc
 
@@ -68,7 +68,7 @@ fit begun [] have le = le-leb _ _ (omega arith)
 fit begun (Create mime mode ∷ cs) have le = rw (le-leb 1 mode have.0.0, le-leb mode 2 have.0.1) (fit (begun + 1) cs have.1 (omega arith))
 fit begun (Turn ∷ cs) have le = fit begun cs have.1 le
 
-abbrev Fits : Page → Type 0
+abbrev pub Fits : Page → Type 0
 Fits page = commands_fit 0 page.commands ≡ true
 
 body_fits : (head : ℕ × ℕ) (ls : List (List ℕ)) → Holds Fits (body_of head ls)
@@ -81,9 +81,9 @@ lines_fit : (ls : List (List ℕ)) → Holds Fits (page_of_lines ls)
 unfolding page_of_lines
 lines_fit [] = none Fits
 lines_fit (h ∷ []) = none Fits
-lines_fit (h ∷ d ∷ ls) = behind Fits (head_of h) _ (λ head e. behind Fits (guard (is_do d)) _ (λ begins f. body_fits head ls))
+lines_fit (h ∷ d ∷ ls) = behind Fits (version_of (codes "page") h) _ (λ head e. behind Fits (guard (is_word_alone (codes "do") d)) _ (λ begins f. body_fits head ls))
 
-in_fits : (bytes : List ℕ) → Holds Fits (page_in bytes)
+pub in_fits : (bytes : List ℕ) → Holds Fits (page_in bytes)
 in_fits bytes = behind Fits _ _ (λ ls e. lines_fit ls)
 
 pub gives_fits : (bytes : List ℕ) (r : Result Page ParseError) → Gives (λ p. p) r (page_in bytes) → IfOk r (λ p. commands_fit 0 p.commands ≡ true)

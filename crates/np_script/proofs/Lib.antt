@@ -9,3 +9,5 @@ pub mod CanonicalWords
 pub mod CanonicalLines
 pub mod CanonicalHead
 pub mod CanonicalPage
+pub mod FewCommands
+pub mod WellFormed

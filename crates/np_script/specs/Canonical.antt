@@ -1,5 +1,5 @@
 -- The canonical text of a page and of the texts in it. (This project's own.)
-use Rattle.std.specs.Prelude.{◌≡◌, ℕ, ◌/◌, ◌%◌, ◌<◌, ◌≤◌, List, [], ◌∷◌, ◌++◌, length, map, Bool, true, if◌then◌else◌, ◌==◌, ◌||◌, Some, codes}
+use Rattle.std.specs.Prelude.{◌≡◌, ℕ, ◌/◌, ◌%◌, ◌<◌, ◌≤◌, List, [], ◌∷◌, ◌++◌, length, map, true, if◌then◌else◌, ◌==◌, ◌||◌, Some, codes}
 use Rattle.std.specs.List.{flat_map, list_all}
 use Rattle.std.specs.Char.{digit_char}
 use Rattle.std.specs.Fmt.{decimal}
@@ -7,7 +7,7 @@ use Rattle.np_values.specs.Text.{is_text}
 use Rattle.np_model.specs.declared.script.Command.{Command}
 use Rattle.np_model.specs.declared.script.Command.TheVariants.{Create, Turn}
 use Rattle.np_model.specs.declared.script.Page.{Page}
-use Rattle.np_model.specs.Script.{is_plain, text_at, page_of, commands_fit}
+use Rattle.np_model.specs.Script.{is_plain, text_at, page_of, commands_fit, has_text, IsWellFormed}
 
 -- how a byte stands in a quoted text: as itself, behind a backslash, or as \xHH in lower case
 abbrev pub quoted_byte : ℕ → List ℕ
@@ -49,12 +49,11 @@ text_of_lines lines = flat_map (λ line. line ++ 10 ∷ []) lines
 abbrev pub canonical_text : Page → List ℕ
 canonical_text page = text_of_lines (head_line page.major page.minor ∷ codes "do" ∷ map command_line page.commands)
 
--- a text value has at most 2,048 bytes of UTF-8
-abbrev pub has_text : Command → Bool
-has_text (Create mime mode) = is_text mime
-has_text Turn = true
-
 -- The canonical text of a page is read as that page.
 abbrev pub CanonicalPageIsRead : Type 0
 CanonicalPageIsRead = (page : Page) → page.major < 256 → page.minor < 256 → commands_fit 0 page.commands ≡ true
     → list_all has_text page.commands ≡ true → length (canonical_text page) ≤ 1048576 → page_of (canonical_text page) ≡ Some page
+
+-- A page that is read is well formed, and has no more commands than a script has bytes.
+abbrev pub PagesAreWellFormed : Type 0
+PagesAreWellFormed = (bytes : List ℕ) (page : Page) → page_of bytes ≡ Some page → IsWellFormed page × (length page.commands ≤ 1048576)

@@ -124,3 +124,85 @@ fn scripts_that_are_refused(rt: HostRuntime) -> Result<(), Fail> {
     }
     Ok(())
 }
+
+#[test]
+fn plugins_that_are_read(rt: HostRuntime) -> Result<(), Fail> {
+    let table = [
+        (b"plugin 0 27\n".as_slice(), 0, 27, None),
+        (b"plugin 255 0".as_slice(), 255, 0, None),
+        (
+            b"# c\n plugin  1   2 \n\n handler  new\n\n  return 3\n# d\nend".as_slice(),
+            1,
+            2,
+            Some(3),
+        ),
+        (
+            b"plugin 0 27\nhandler new\nreturn 0\nend\n".as_slice(),
+            0,
+            27,
+            Some(0),
+        ),
+        (
+            b"plugin 0 27\nhandler new\nreturn -1\nend\n".as_slice(),
+            0,
+            27,
+            Some(-1),
+        ),
+        (
+            b"plugin 0 27\nhandler new\nreturn 2147483647\nend\n".as_slice(),
+            0,
+            27,
+            Some(2147483647),
+        ),
+        (
+            b"plugin 0 27\nhandler new\nreturn -2147483648\nend\n".as_slice(),
+            0,
+            27,
+            Some(-2147483648),
+        ),
+    ];
+    for (script, major, minor, new_handler) in table {
+        let plugin = parse_plugin(script)?;
+        assert_eq!(rt; plugin.major, major);
+        assert_eq!(rt; plugin.minor, minor);
+        assert_eq!(rt; plugin.new_handler, new_handler);
+    }
+    Ok(())
+}
+
+#[test]
+fn plugins_that_are_refused(rt: HostRuntime) {
+    let table = [
+        b"".as_slice(),
+        b"# plugin 0 27".as_slice(),
+        b"plugin 0 256".as_slice(),
+        b"plugin 00 27".as_slice(),
+        b"plugin 0".as_slice(),
+        b"plugin 0 27 0".as_slice(),
+        b"page 0 27".as_slice(),
+        b"plugin 0 27\ndo".as_slice(),
+        b"plugin 0 27\nhandler new".as_slice(),
+        b"plugin 0 27\nhandler new\nreturn 0".as_slice(),
+        b"plugin 0 27\nhandler new\nend".as_slice(),
+        b"plugin 0 27\nhandler new\nreturn 0\nreturn 0\nend".as_slice(),
+        b"plugin 0 27\nhandler destroy\nreturn 0\nend".as_slice(),
+        b"plugin 0 27\nhandler\nreturn 0\nend".as_slice(),
+        b"plugin 0 27\nhandler new 1\nreturn 0\nend".as_slice(),
+        b"plugin 0 27\nhandler new\nreturn\nend".as_slice(),
+        b"plugin 0 27\nhandler new\nreturn 0 0\nend".as_slice(),
+        b"plugin 0 27\nhandler new\nreturn 0\nend 0".as_slice(),
+        b"plugin 0 27\nhandler new\nreturn -0\nend".as_slice(),
+        b"plugin 0 27\nhandler new\nreturn 007\nend".as_slice(),
+        b"plugin 0 27\nhandler new\nreturn +1\nend".as_slice(),
+        b"plugin 0 27\nhandler new\nreturn -\nend".as_slice(),
+        b"plugin 0 27\nhandler new\nreturn 2147483648\nend".as_slice(),
+        b"plugin 0 27\nhandler new\nreturn -2147483649\nend".as_slice(),
+        b"plugin 0 27\nhandler new\nreturn 99999999999999999999\nend".as_slice(),
+        b"plugin 0 27\nhandler new\nreturn 0\nend\nhandler new\nreturn 0\nend".as_slice(),
+        b"plugin 0 27\nhandler new\nreturn 0\nend\n\tend".as_slice(),
+        b"plugin 0 27\nhandler new\nreturn 0\nend\n# \xff".as_slice(),
+    ];
+    for script in table {
+        assert!(rt; matches!(parse_plugin(script), Err(ParseError::Script)));
+    }
+}

@@ -1,7 +1,7 @@
 use Rattle.std.proofs.Common.{◌≡◌, length}
 use Rattle.np_model.specs.Script.{commands_in}
 use Rattle.np_script.proofs.CommandList.{with_commands}
-use Rattle.np_script.proofs.parse.commands.Given as goal
+use Rattle.np_script.proofs.page.commands.Given as goal
 
 abbrev pub invariant-loop-line : goal.invariant-loop-line
 invariant-loop-line l = with_commands l.commands (commands_in l.left) ≡ commands_in l.bytes

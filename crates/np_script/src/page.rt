@@ -1,17 +1,14 @@
-//! The lines of a page in their order.
+//! Page scripts: their lines in their order.
 ghost use Rattle.std.specs.Prelude.{◌≡◌, ◌⊎◌, true, IfOk, IsErrOf};
-ghost use Rattle.np_model.specs.Script.{create_of, command_of, commands_in, creates, head_of, is_do, body_in, page_in, page_of, commands_fit};
+ghost use Rattle.np_model.specs.Script.{create_of, command_of, commands_in, creates, body_in, page_in, page_of, commands_fit};
 ghost use Rattle.np_script.specs.Gives.{Gives};
 
-use crate::ParseError;
 use crate::lines::{NextLine, next_line};
 use crate::quoted::text;
-use crate::words::{mode, number, split_word, strip_spaces};
+use crate::words::{is_word_alone, mode, split_word, strip_spaces, version};
+use crate::{MAX_SCRIPT_BYTES, ParseError};
 use np_model::{Command, Commands, Page};
 use std::alloc::Global;
-
-/// The most bytes of a script.
-const MAX_SCRIPT_BYTES: usize = 1_048_576;
 
 /// The most `create` lines of a page.
 const MAX_CREATES: usize = 255;
@@ -49,33 +46,6 @@ fn command(alloc: Global, line: &[u8]) -> Result<Command, ParseError>
     } else {
         Err(ParseError::Script)
     }
-}
-
-/// The version of a `page` line: major, minor.
-#[tactic(auto, unfolding(np_model::specs::Script::head_of))]
-fn head(line: &[u8]) -> Option<(u8, u8)>
-    ensures value { result ≡ head_of line.now }
-{
-    let (word, rest) = split_word(line);
-    if word != b"page".as_slice() {
-        return None;
-    }
-    let (major, rest) = split_word(rest);
-    let major = number(major)?;
-    let (minor, rest) = split_word(rest);
-    let minor = number(minor)?;
-    if !rest.is_empty() {
-        return None;
-    }
-    Some((major, minor))
-}
-
-#[tactic(auto, unfolding(np_model::specs::Script::is_do))]
-fn is_do_line(line: &[u8]) -> bool
-    ensures value { result ≡ is_do line.now }
-{
-    let (word, rest) = split_word(line);
-    word == b"do".as_slice() && rest.is_empty()
 }
 
 fn count_creates(commands: &[Command]) -> usize
@@ -133,13 +103,13 @@ fn page(alloc: Global, bytes: &[u8]) -> Result<Page, ParseError>
     let NextLine::Found { line, rest } = next_line(bytes) else {
         return Err(ParseError::Script);
     };
-    let Some(version) = head(line) else {
+    let Some(version) = version(b"page".as_slice(), line) else {
         return Err(ParseError::Script);
     };
     let NextLine::Found { line, rest } = next_line(rest) else {
         return Err(ParseError::Script);
     };
-    if !is_do_line(line) {
+    if !is_word_alone(b"do".as_slice(), line) {
         return Err(ParseError::Script);
     }
     body(alloc, version, rest)
