@@ -3,10 +3,15 @@ use Rattle.std.specs.Prelude.{ℕ, Bool}
 use Rattle.np_ports.specs.declared.stdout_sink.StdoutSink.{StdoutSink}
 use Rattle.np_ports.specs.declared.child_peer.ChildPeer.{ChildPeer}
 use Rattle.np_ports.specs.declared.host_files.HostFiles.{HostFiles}
+use Rattle.np_ports.specs.declared.std_peer.StdPeer.{StdPeer}
+use Rattle.np_ports.specs.declared.file_sink.FileSink.{FileSink}
 
 -- whether a read answered the end
 abbrev pub child_ended : {R S I O E : Type 0} → ChildPeer R S I O E → Bool
 child_ended p = p.ended
+
+abbrev pub std_ended : StdPeer → Bool
+std_ended p = p.ended
 
 -- the counts of failures
 abbrev pub child_start_faults : {R S I O E : Type 0} → ChildPeer R S I O E → ℕ
@@ -20,3 +25,12 @@ host_faults f = f.faults
 
 abbrev pub stdout_faults : StdoutSink → ℕ
 stdout_faults s = s.faults
+
+abbrev pub std_start_faults : StdPeer → ℕ
+std_start_faults p = p.start_faults
+
+abbrev pub std_pipe_faults : StdPeer → ℕ
+std_pipe_faults p = p.pipe_faults
+
+abbrev pub file_sink_faults : {R F D : Type 0} → FileSink R F D → ℕ
+file_sink_faults s = s.faults

@@ -182,3 +182,37 @@ fn standard_output_takes_bytes(rt: HostRuntime) {
     let mut sink = StdoutSink::new(rt.stdout());
     assert_eq!(rt; sink.write(b"printed\n"), Ok(8));
 }
+
+#[test]
+fn standard_streams_are_a_peer(rt: HostRuntime) -> Result<(), Fail> {
+    let alloc = rt.alloc();
+    let mut peer = StdPeer::new(rt.stdin(), rt.stdout());
+    assert_eq!(rt;
+        peer.start(&words(alloc, &["cat"])?),
+        Err(PortError::Failed)
+    );
+    assert_eq!(rt; peer.write(b"sent\n"), Ok(5));
+    Ok(())
+}
+
+#[test]
+fn a_file_is_made_at_its_first_write(rt: HostRuntime) -> Result<(), Fail> {
+    let alloc = rt.alloc();
+    let folder = env::temp_dir(&rt)?;
+    let number = process::id(rt.process());
+    let name = format!(in alloc;
+        "{folder}/np_ports_sink_{number}",
+        folder = folder.display()
+    )?;
+    fs::write(&rt, &name, b"an old file")?;
+    let mut sink = FileSink::new(rt, String::from_str(alloc, &name)?);
+    let mut files = HostFiles::new(rt, alloc);
+    file_reads_as(&rt, &mut files, &name, 0, Ok(b"an old f"));
+    assert_eq!(rt; sink.write(b"abc"), Ok(3));
+    assert_eq!(rt; sink.write(b"de"), Ok(2));
+    file_reads_as(&rt, &mut files, &name, 0, Ok(b"abcde"));
+    fs::remove_file(&rt, &name)?;
+    let mut nowhere = FileSink::new(rt, String::from_str(alloc, "/no such folder/file")?);
+    assert_eq!(rt; nowhere.write(b"abc"), Err(PortError::Failed));
+    Ok(())
+}

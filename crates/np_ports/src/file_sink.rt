@@ -1,0 +1,61 @@
+//! A sink that is a file.
+
+ghost use Rattle.std.specs.Prelude.{◌≡◌, ◌≤◌, None, length, IfOk};
+ghost use Rattle.np_ports.specs.Adapters.{file_sink_faults};
+
+use crate::faults::{fail, refuse};
+use crate::{PortError, Sink};
+use std::io::Write;
+use std::{fs, io, rt};
+
+/// A file of the platform, by its path. It is made at the first write, in place of an old one, and stays
+/// open from then on. It tells nothing of the bytes. This project's own.
+#[derive(Drop)]
+pub struct FileSink<R: rt::Files + Drop> {
+    runtime: R,
+    name: String,
+    open: Option<R::File>,
+    faults: u64,
+}
+
+impl<R: rt::Files + Drop> FileSink<R> {
+    /// The named file, not made yet.
+    pub fn new(runtime: R, name: String) -> FileSink<R>
+        ensures { file_sink_faults result ≡ 0 }
+    {
+        FileSink {
+            runtime,
+            name,
+            open: None,
+            faults: 0,
+        }
+    }
+
+    // A file that was made stays open, also where the write failed: what it holds is kept.
+    fn write_some(&mut self, bytes: &[u8]) -> io::Result<usize>
+        ensures bound { IfOk result (λ n. n ≤ length bytes.now) }
+        ensures faults { file_sink_faults self.new ≡ file_sink_faults self.old }
+    {
+        let mut file = match self.open.take() {
+            Some(file) => file,
+            None => fs::create(&self.runtime, self.name.as_str())?,
+        };
+        let written = file.write(bytes);
+        self.open = Some(file);
+        written
+    }
+}
+
+impl<R: rt::Files + Drop> Sink for FileSink<R> {
+    ghost taken = { λ s. None };
+
+    ghost faults = { λ s. file_sink_faults s };
+
+    fn write(&mut self, bytes: &[u8]) -> Result<usize, PortError> {
+        match self.write_some(bytes) {
+            Ok(0) => fail(&mut self.faults),
+            Ok(n) => Ok(n),
+            Err(e) => refuse(&mut self.faults, e),
+        }
+    }
+}
