@@ -1,0 +1,4 @@
+pub mod CoreRuns
+pub mod PluginTurns
+pub mod Stands
+pub mod StepLemmas

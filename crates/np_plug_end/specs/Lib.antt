@@ -1,0 +1,10 @@
+pub mod Core
+pub mod PlugEnd
+pub use Rattle.np_model.specs.Encoding
+pub use Rattle.np_model.specs.Decoding
+pub use Rattle.np_model.specs.Side
+pub use Rattle.np_model.specs.Run
+pub use Rattle.np_model.specs.PluginPlan
+pub use Rattle.np_model.specs.PluginRun
+pub use Rattle.np_model.specs.Steps
+pub use Rattle.np_model.specs.Refused

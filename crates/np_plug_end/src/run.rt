@@ -1,0 +1,87 @@
+//! The run of an end, from message to message.
+
+ghost use Rattle.std.specs.Prelude.{◌≡◌, OnOk, IfOk, false};
+ghost use Rattle.np_model.specs.Refused.{refusal_of, rule_of as rule_of_kind};
+ghost use Rattle.np_model.specs.PluginRun.{IsListening};
+
+use crate::plug_core::Core;
+use crate::plug_end::PlugState;
+use np_laws::plugin_more_messages_law;
+use np_model::{PluginStage, Refusal, Rule, WireError, WireKind};
+use np_values::NoMemory;
+use np_wire::FeedError;
+
+fn rule_of(kind: WireKind) -> Rule
+    ensures value { result ≡ rule_of_kind kind }
+{
+    match kind {
+        WireKind::Length => Rule::Length,
+        WireKind::Item => Rule::Item,
+        WireKind::Rest => Rule::Rest,
+    }
+}
+
+fn refusal(error: WireError) -> Refusal
+    ensures value { result ≡ refusal_of error }
+{
+    Refusal {
+        at: error.at,
+        rule: rule_of(error.kind),
+        first: error.first,
+        second: error.second,
+    }
+}
+
+impl Core {
+    ghost use Rattle.np_plug_end.specs.PlugEnd.{Keeps, RestsAs, seen, total_of};
+    ghost use Rattle.np_plug_end.specs.Core.{Listened};
+    ghost use Rattle.np_plug_end.specs.declared.plug_end.PlugState.TheVariants.{Waiting};
+
+    /// Serves what has come whole, until it waits or was shut down, or refuses a message.
+    pub fn run(&mut self) -> Result<PlugState, NoMemory>
+        ensures keeps { IfOk result (λ state.
+            Keeps (seen self.old Waiting false) (seen self.new state false)) }
+        ensures rests { IfOk result (λ state. RestsAs (seen self.new state false) state) }
+        ensures total { OnOk result (total_of (seen self.new Waiting false) ≡
+            total_of (seen self.old Waiting false)) }
+    {
+        plugin_more_messages_law();
+        loop {
+            match self.stage {
+                PluginStage::Ended => return Ok(PlugState::Finished),
+                PluginStage::Begin | PluginStage::Serving => {
+                    if let Some(state) = self.listen()? {
+                        return Ok(state);
+                    }
+                }
+            }
+        }
+    }
+
+    /// Meets the next message; where it can't go on, what it waits for or refuses.
+    fn listen(&mut self) -> Result<Option<PlugState>, NoMemory>
+        requires listens { IsListening self.old.stage }
+        ensures listened { IfOk result (λ halt. Listened self.old self.new halt) }
+        ensures total { OnOk result (total_of (seen self.new Waiting false) ≡
+            total_of (seen self.old Waiting false)) }
+    {
+        let at = self.feed.consumed();
+        match self.feed.next() {
+            Ok(None) => Ok(Some(PlugState::Waiting)),
+            Ok(Some(message)) => {
+                if let Some(fault) = self.fault(&message) {
+                    return Ok(Some(PlugState::Refused(Refusal {
+                        at,
+                        rule: fault.rule,
+                        first: fault.first,
+                        second: fault.second,
+                    })));
+                }
+                self.serve(&message)?;
+                Ok(None)
+            }
+            Err(FeedError::Wire(error)) => Ok(Some(PlugState::Refused(refusal(error)))),
+            Err(FeedError::NoMemory) => Err(NoMemory),
+        }
+    }
+}

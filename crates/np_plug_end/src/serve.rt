@@ -1,0 +1,68 @@
+//! How the plug-in serves a call.
+
+ghost use Rattle.std.specs.Prelude.{◌≡◌, ◌++◌, ◌<◌, OnOk};
+ghost use Rattle.np_model.specs.PluginPlan.{control_after_call, lines_of_call, serve_plan};
+ghost use Rattle.np_model.specs.Encoding.{KeepsFormat};
+
+use crate::lines::push_new;
+use crate::plug_core::Core;
+use crate::rules::{answer, phase, place, reply};
+use np_model::{Message, Payload, Phase, PluginStage};
+use np_values::NoMemory;
+use np_wire::encode;
+
+impl Core {
+    ghost use Rattle.np_plug_end.specs.Core.{control_of, Moves, SameBut};
+
+    /// Serves a call: what it changes, its line, and the reply.
+    pub fn serve(&mut self, message: &Message) -> Result<(), NoMemory>
+        requires format { KeepsFormat message.now }
+        ensures moves { OnOk result (Moves self.old self.new
+            (serve_plan self.old.plugin (control_of self.old) message.now)) }
+        ensures feed { self.new.feed ≡ self.old.feed }
+    {
+        let call = &message.body;
+        self.advance(call)?;
+        self.print(call)?;
+        let reply = Message {
+            depth: message.depth,
+            body: reply(self.plugin, call),
+        };
+        encode(&reply, &mut self.outgoing)
+    }
+
+    // The control after a call.
+    fn advance(&mut self, call: &Payload) -> Result<(), NoMemory>
+        ensures control { OnOk result (control_of self.new ≡
+            control_after_call self.old.plugin (control_of self.old) call.now) }
+        ensures same { SameBut self.old self.new }
+    {
+        match call {
+            Payload::Hello { .. } => self.stage = PluginStage::Serving,
+            Payload::Shutdown => self.stage = PluginStage::Ended,
+            Payload::New { .. } => self.phases.push(phase(answer(self.plugin)))?,
+            Payload::Destroy { instance } => {
+                let place = place(*instance);
+                if place < self.phases.len() {
+                    self.phases[place] = Phase::Dead;
+                }
+            }
+            Payload::Turn | Payload::Code(_) | Payload::Done => {}
+        }
+        Ok(())
+    }
+
+    // The lines of a call.
+    fn print(&mut self, call: &Payload) -> Result<(), NoMemory>
+        ensures journal { OnOk result (self.new.journal.items ≡
+            self.old.journal.items ++ lines_of_call self.old.plugin call.now) }
+        ensures same { self.new ≡ record self.old { journal = self.new.journal } }
+    {
+        match call {
+            Payload::New { instance, .. } if self.plugin.new_handler.is_some() => {
+                push_new(&mut self.journal, *instance)
+            }
+            _ => Ok(()),
+        }
+    }
+}
