@@ -9,7 +9,7 @@ use Rattle.np_model.specs.declared.script.Page.{Page}
 use Rattle.np_model.specs.Encoding.{items_of, body_of, encoding, encodings}
 use Rattle.np_model.specs.Side.{SideState}
 use Rattle.np_model.specs.PagePlan.{PageControl, is_reply}
-use Rattle.np_model.specs.PluginPlan.{Plugin}
+use Rattle.np_model.specs.declared.script.Plugin.{Plugin}
 use Rattle.np_model.specs.HostRun.{IsPluginText}
 use Rattle.np_laws.specs.Laws.{AreReplies, RepliesLaw, RoundsLaw, EndpointLaw, FewCallsLaw}
 use Rattle.np_prefix.proofs.Texts.{machine, page-follows}

@@ -1,3 +1,11 @@
 pub mod Streams
+pub mod Stays
 pub mod Texts
 pub mod FewBytes
+pub mod PluginTexts
+pub mod CallBytes
+pub mod PluginUnrefused
+pub mod Unrefused
+pub mod Weights
+pub mod Rests
+pub mod PluginRests

@@ -1,12 +1,13 @@
 -- Bytes are taken apart into messages in one way.
 use Rattle.std.proofs.Common.{◌≡◌, ◌≢◌, ℕ, ◌<◌, ◌≤◌, List, [], ◌∷◌, ◌++◌, length, refl, sym, ap, ◌∙◌, append_assoc, arith, ◌⊎◌, inl, inr, ⊎_elim}
 use Rattle.std.proofs.lemmas.Bool.{cases_lt}
-use Rattle.std.proofs.lemmas.List.{length-append}
+use Rattle.std.proofs.lemmas.List.{length-append, take-append-le}
+use Rattle.std.specs.Int.{w32, from_be_bytes}
 use Rattle.np_model.specs.declared.message.Message.{Message}
 use Rattle.np_model.specs.Encoding.{encoding, encodings, KeepsFormat, IsTyped}
 use Rattle.np_model.specs.Decoding.{Partial, Whole, front}
-use Rattle.np_wire.specs.Laws.{WaitsExactly}
-use Rattle.np_host_end.specs.HostEnd.{AreMessages}
+use Rattle.np_wire.specs.Laws.{WaitsExactly, IsCutShort, length_of}
+use Rattle.np_model.specs.Encoding.{AreMessages}
 
 -- ---- the laws of np_wire that are used
 
@@ -78,6 +79,27 @@ empty-waits w at bytes more e =
     let few : length bytes < 4 = omega (arith, ap length nil) in
     (w at bytes).1 (inl few)
 
+-- bytes that begin a message and others are cut short, or the message stands at their front
+pub begun-or-whole : Wire → Waiting → (bytes more rest : List ℕ) (m : Message) → KeepsFormat m → IsTyped m.body → bytes ++ more ≡ encoding m ++ rest → ((at : ℕ) → front at bytes ≡ Partial) ⊎ ((behind : List ℕ) × (bytes ≡ encoding m ++ behind))
+begun-or-whole w v bytes more rest m keeps typed e = ⊎_elim cut whole (cases_lt (length bytes) (length (encoding m)))
+  where
+    cut : length bytes < length (encoding m) → ((at : ℕ) → front at bytes ≡ Partial) ⊎ ((behind : List ℕ) × (bytes ≡ encoding m ++ behind))
+    cut lt =
+        let le : length bytes ≤ length (encoding m) = omega (arith, lt) in
+        let z = begins-longer bytes more (encoding m) rest e le in
+        let lengths = ap length z.1 in
+        let some : z.0 ≢ [] = λ nil. let none = ap length nil in omega (arith, lt, lengths, none, length-append bytes z.0) in
+        inl (λ at. v.beginning at m bytes z.0 keeps typed (sym z.1) some)
+
+    whole : length (encoding m) ≤ length bytes → ((at : ℕ) → front at bytes ≡ Partial) ⊎ ((behind : List ℕ) × (bytes ≡ encoding m ++ behind))
+    whole le = inr (begins-longer (encoding m) rest bytes more (sym e) le)
+
+pub whole-or-waits : Wire → Waiting → (at : ℕ) (bytes more rest : List ℕ) (m : Message) → KeepsFormat m → IsTyped m.body → bytes ++ more ≡ encoding m ++ rest → (front at bytes ≡ Partial) ⊎ ((behind : List ℕ) × (front at bytes ≡ Whole m behind))
+whole-or-waits w v at bytes more rest m keeps typed e =
+    ⊎_elim (λ (partial : (at : ℕ) → front at bytes ≡ Partial). inl (partial at))
+    (λ (x : (behind : List ℕ) × (bytes ≡ encoding m ++ behind)). inr (x.0, ap (λ l. front at l) x.1 ∙ w.again at m x.0 keeps typed))
+    (begun-or-whole w v bytes more rest m keeps typed e)
+
 -- the first of these messages stands at the front
 pub record HasFirst (at : ℕ) (bytes : List ℕ) (messages : List Message) : Type 0 where
   pub message : Message
@@ -88,17 +110,35 @@ pub record HasFirst (at : ℕ) (bytes : List ℕ) (messages : List Message) : Ty
 
 pub first-or-waits : Wire → Waiting → (at : ℕ) (bytes more : List ℕ) (messages : List Message) → AreMessages messages → bytes ++ more ≡ encodings messages → (front at bytes ≡ Partial) ⊎ HasFirst at bytes messages
 first-or-waits w v at bytes more [] a e = inl (empty-waits v.exact at bytes more e)
-first-or-waits w v at bytes more (m ∷ messages) a e = ⊎_elim cut whole (cases_lt (length bytes) (length (encoding m)))
-  where
-    cut : length bytes < length (encoding m) → (front at bytes ≡ Partial) ⊎ HasFirst at bytes (m ∷ messages)
-    cut lt =
-        let le : length bytes ≤ length (encoding m) = omega (arith, lt) in
-        let z = begins-longer bytes more (encoding m) (encodings messages) e le in
-        let lengths = ap length z.1 in
-        let some : z.0 ≢ [] = λ nil. let none = ap length nil in omega (arith, lt, lengths, none, length-append bytes z.0) in
-        inl (v.beginning at m bytes z.0 a.0.0 a.0.1 (sym z.1) some)
+first-or-waits w v at bytes more (m ∷ messages) a e =
+    ⊎_elim (λ partial. inl partial)
+    (λ (x : (behind : List ℕ) × (front at bytes ≡ Whole m behind)). inr (record { message = m; later = messages; are = refl; behind = x.0; seen = x.1 }))
+    (whole-or-waits w v at bytes more (encodings messages) m a.0.0 a.0.1 e)
 
-    whole : length (encoding m) ≤ length bytes → (front at bytes ≡ Partial) ⊎ HasFirst at bytes (m ∷ messages)
-    whole le =
-        let z = begins-longer (encoding m) (encodings messages) bytes more (sym e) le in
-        inr (record { message = m; later = messages; are = refl; behind = z.0; seen = ap (λ l. front at l) z.1 ∙ w.again at m z.0 a.0.0 a.0.1 })
+-- of two lists of messages whose bytes begin the same bytes one begins the other
+pub one-begins : Wire → (a b : List Message) (x y : List ℕ) → AreMessages a → AreMessages b → encodings a ++ x ≡ encodings b ++ y → Continues a b x y ⊎ Continues b a y x
+one-begins w [] b x y ka kb e = inl (record { more = b; is = refl; bytes = e; keep = kb })
+one-begins w (m ∷ a) [] x y ka kb e = inr (record { more = m ∷ a; is = refl; bytes = sym e; keep = ka })
+one-begins w (m ∷ a) (n ∷ b) x y ka kb e =
+    let both : encoding m ++ (encodings a ++ x) ≡ encoding n ++ (encodings b ++ y) = sym (append_assoc (encoding m) (encodings a) x) ∙ e ∙ append_assoc (encoding n) (encodings b) y in
+    let parts = w.apart m n (encodings a ++ x) (encodings b ++ y) ka.0.0 ka.0.1 kb.0.0 kb.0.1 both in
+    ⊎_elim
+    (λ (r : Continues a b x y). inl (record { more = r.more; is = ap (λ l. n ∷ l) r.is ∙ ap (λ q. q ∷ (a ++ r.more)) (sym parts.0); bytes = r.bytes; keep = r.keep }))
+    (λ (r : Continues b a y x). inr (record { more = r.more; is = ap (λ l. m ∷ l) r.is ∙ ap (λ q. q ∷ (b ++ r.more)) parts.0; bytes = r.bytes; keep = r.keep }))
+    (one-begins w a b x y ka.1 kb.1 parts.1)
+
+cut-shorter : (a b : List ℕ) → IsCutShort (a ++ b) → IsCutShort a
+cut-shorter a b (inl few) = inl (omega (arith, few, length-append a b))
+cut-shorter a b (inr x) = ⊎_elim (λ few. inl few) there (cases_lt (length a) 4)
+  where
+    there : 4 ≤ length a → IsCutShort a
+    there long =
+        let same : length_of (a ++ b) ≡ length_of a = ap (λ (l : List ℕ). from_be_bytes w32 l) (take-append-le 4 a b long) in
+        let low = x.0 in
+        let high = x.1 in
+        let short = x.2 in
+        inr (omega (arith, same, low), omega (arith, same, high), omega (arith, same, short, length-append a b))
+
+-- bytes that are awaited are awaited from their first one on
+pub waits-shorter : WaitsAlways → (at to : ℕ) (a b : List ℕ) → front at (a ++ b) ≡ Partial → front to a ≡ Partial
+waits-shorter w at to a b e = (w to a).1 (cut-shorter a b ((w at (a ++ b)).0 e))

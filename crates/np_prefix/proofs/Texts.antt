@@ -13,11 +13,14 @@ use Rattle.np_model.specs.Decoding.{Partial, front}
 use Rattle.np_model.specs.Side.{SideState, at_start}
 use Rattle.np_model.specs.Run.{Awaits, Meeting, Accepts, Refuses, Machine, first, next_message, endpoint_run, machine_run, HasNone, RestsAt}
 use Rattle.np_model.specs.PagePlan.{PageControl, page_plans, page_start, pace_at, meet_plan}
-use Rattle.np_model.specs.PluginPlan.{Plugin, PluginControl, plugin_plans, plugin_start}
+use Rattle.np_model.specs.declared.script.Plugin.{Plugin}
+use Rattle.np_model.specs.PluginPlan.{PluginControl, plugin_plans, plugin_start}
 use Rattle.np_model.specs.HostRun.{start_of, HostRests, IsAwaiting, IsPluginText}
 use Rattle.np_laws.specs.Laws.{AreReplies, RefusesNone, CutLaw, MoreMessagesLaw, HonestLaw, JournalLaw, RepliesLaw, RoundsLaw, EndpointLaw, PacedLaw, AloneLaw, open_calls}
-use Rattle.np_host_end.specs.Refused.{RefusedMeeting, RefusedFront}
-use Rattle.np_host_end.specs.HostEnd.{AreMessages, IsRefusal}
+use Rattle.np_model.specs.Refused.{RefusedMeeting}
+use Rattle.np_model.specs.HostRun.{RefusedFront}
+use Rattle.np_model.specs.Encoding.{AreMessages}
+use Rattle.np_model.specs.HostRun.{IsRefusal}
 use Rattle.np_prefix.specs.Alone.{ComesTo, WaitsAt, EndsAt}
 use Rattle.np_prefix.specs.Prefix.{IsWhole}
 use Rattle.np_prefix.proofs.Streams.{WaitsAlways, Wire, Waiting, Continues, continues, empty-waits, HasFirst, first-or-waits}
@@ -25,7 +28,7 @@ use Rattle.np_prefix.proofs.Streams.{WaitsAlways, Wire, Waiting, Continues, cont
 abbrev pub machine : Page → Plugin → ℕ → Machine PageControl PluginControl
 machine page plugin rounds = machine_run (page_plans page) (plugin_plans plugin) None None rounds (start_of page)
 
-replies-keep : (messages : List Message) → AreReplies messages → AreMessages messages
+pub replies-keep : (messages : List Message) → AreReplies messages → AreMessages messages
 replies-keep [] h = tt
 replies-keep (m ∷ messages) h = ((h.0.format, h.0.typed), replies-keep messages h.1)
 
@@ -39,7 +42,7 @@ examined-begin w v replies page plugin given side t c =
 
 -- ---- the page where it waits or has ended
 
-awaits-there : (stage : Stage) → IsAwaiting stage → pace_at stage ≡ Awaits
+pub awaits-there : (stage : Stage) → IsAwaiting stage → pace_at stage ≡ Awaits
 awaits-there Begin h = absurd h
 awaits-there Ready h = absurd h
 awaits-there (Awaiting call) h = refl

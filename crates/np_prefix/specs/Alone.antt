@@ -10,7 +10,8 @@ use Rattle.np_model.specs.Side.{SideState, at_start}
 use Rattle.np_model.specs.Run.{endpoint_run}
 use Rattle.np_model.specs.PagePlan.{PageControl, page_plans, page_start}
 use Rattle.np_model.specs.HostRun.{IsAwaiting}
-use Rattle.np_host_end.specs.HostEnd.{AreMessages, IsRefusal}
+use Rattle.np_model.specs.Encoding.{AreMessages}
+use Rattle.np_model.specs.HostRun.{IsRefusal}
 
 -- with these bytes the page comes to p: the messages that it examined begin them, and `left` stands behind these
 pub record ComesTo (page : Page) (got : List ℕ) (p : SideState PageControl) : Type 0 where
@@ -39,3 +40,7 @@ too_many_bytes = record { at = 2 ^ 40; rule = Bytes; first = 2 ^ 40; second = 0 
 pub record RefusesAt (page : Page) (got : List ℕ) (p : SideState PageControl) (r : Refusal) : Type 0 where
   pub comes_to : ComesTo page got p
   pub refusal : IsRefusal p.control (length (encodings p.examined)) comes_to.left r ⊎ (WaitsAt page got p × (length got ≡ 2 ^ 40) × (r ≡ too_many_bytes))
+
+-- no place of the page with these bytes refuses what stands next in them
+abbrev pub RefusesNothing : Page → List ℕ → Type 0
+RefusesNothing page got = (side : SideState PageControl) (r : Refusal) → (c : ComesTo page got side) → IsRefusal side.control (length (encodings side.examined)) c.left r → ⊥

@@ -1,4 +1,6 @@
 pub mod Alone
 pub mod Prefix
+pub mod PluginAlone
+pub mod PluginPrefix
 pub use Rattle.np_model.specs.HostRun
-pub use Rattle.np_host_end.specs.HostEnd
+pub use Rattle.np_model.specs.PluginRun

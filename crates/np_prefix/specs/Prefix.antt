@@ -1,5 +1,5 @@
 -- The page alone with a prefix of the plug-in's wire text is the page of the one process that only the whole messages of that prefix reach.
-use Rattle.std.specs.Prelude.{◌≡◌, ℕ, ◌+◌, ◌*◌, ◌≤◌, List, ◌++◌, length}
+use Rattle.std.specs.Prelude.{◌≡◌, ℕ, ◌+◌, ◌*◌, ◌≤◌, List, ◌++◌, length, ◌⊎◌}
 use Rattle.np_model.specs.declared.script.Page.{Page}
 use Rattle.np_model.specs.declared.message.Message.{Message}
 use Rattle.np_model.specs.declared.refusal.Refusal.{Refusal}
@@ -7,10 +7,11 @@ use Rattle.np_model.specs.Encoding.{encodings}
 use Rattle.np_model.specs.Decoding.{Partial, front}
 use Rattle.np_model.specs.Side.{SideState}
 use Rattle.np_model.specs.PagePlan.{PageControl}
-use Rattle.np_model.specs.PluginPlan.{Plugin}
+use Rattle.np_model.specs.declared.script.Plugin.{Plugin}
 use Rattle.np_model.specs.HostRun.{HostRests, IsPluginText}
-use Rattle.np_host_end.specs.HostEnd.{AreMessages, IsRefusal}
-use Rattle.np_prefix.specs.Alone.{ComesTo, WaitsAt, EndsAt}
+use Rattle.np_model.specs.Encoding.{AreMessages}
+use Rattle.np_model.specs.HostRun.{IsRefusal}
+use Rattle.np_prefix.specs.Alone.{ComesTo, WaitsAt, EndsAt, RefusesNothing}
 
 -- the bytes are n messages one after another, and less than a whole one
 pub record IsWhole (bytes : List ℕ) (n : ℕ) : Type 0 where
@@ -33,9 +34,17 @@ WaitsLaw = (page : Page) (plugin : Plugin) (given : List ℕ) (side : SideState 
 abbrev pub EndsLaw : Type 0
 EndsLaw = (page : Page) (plugin : Plugin) (given : List ℕ) (side : SideState PageControl) → IsPluginText page plugin given → EndsAt page given side → HostRests page plugin (length side.examined) side × IsWhole given (length side.examined)
 
+-- it does rest in that run
+abbrev pub ComesToRestLaw : Type 0
+ComesToRestLaw = (page : Page) (plugin : Plugin) (given : List ℕ) → IsPluginText page plugin given → (n : ℕ) × (side : SideState PageControl) × IsWhole given n × HostRests page plugin n side
+
 -- nothing of such bytes is refused
 abbrev pub NeverRefusesLaw : Type 0
 NeverRefusesLaw = (page : Page) (plugin : Plugin) (given : List ℕ) (side : SideState PageControl) (r : Refusal) → IsPluginText page plugin given → (c : ComesTo page given side) → IsRefusal side.control (length (encodings side.examined)) c.left r → ⊥
+
+-- where the page waits with these bytes, or has ended, it refuses nothing of them, whatever bytes they are
+abbrev pub RestsUnrefusedLaw : Type 0
+RestsUnrefusedLaw = (page : Page) (got : List ℕ) (side : SideState PageControl) → WaitsAt page got side ⊎ EndsAt page got side → RefusesNothing page got
 
 -- what the page printed and sent by some point begins what it printed and sent where it rests
 abbrev pub BeginsLaw : Type 0

@@ -1,4 +1,4 @@
-ghost use Rattle.np_prefix.specs.Prefix.{NeverRefusesLaw, WaitsLaw, EndsLaw, BeginsLaw, OneWholeLaw, FewBytesLaw};
+ghost use Rattle.np_prefix.specs.Prefix.{NeverRefusesLaw, WaitsLaw, EndsLaw, ComesToRestLaw, RestsUnrefusedLaw, BeginsLaw, OneWholeLaw, FewBytesLaw};
 
 /// Nothing of a prefix of the plug-in's wire text is refused.
 pub fn never_refuses_law()
@@ -37,6 +37,29 @@ pub fn ends_law()
     np_laws::endpoint_law();
     np_laws::journal_law();
     np_laws::paced_law();
+}
+
+/// In the run that only the whole messages of such bytes reach the page comes to rest.
+pub fn comes_to_rest_law()
+    ensures law { ComesToRestLaw }
+{
+    np_wire::encoded_is_read_again();
+    np_wire::no_encoding_begins_another();
+    np_wire::partial_is_cut_short();
+    np_laws::replies_law();
+    np_laws::more_messages_law();
+    np_laws::honest_law();
+    np_laws::cut_law();
+}
+
+/// Where the page waits, or has ended, it refuses nothing of the bytes that it was given.
+pub fn rests_unrefused_law()
+    ensures law { RestsUnrefusedLaw }
+{
+    np_wire::encoded_is_read_again();
+    np_wire::no_encoding_begins_another();
+    np_wire::partial_is_cut_short();
+    np_laws::more_messages_law();
 }
 
 /// What the page printed and sent stays where it comes to rest.
