@@ -1,7 +1,7 @@
 -- What a session comes to.
-use Rattle.std.proofs.Common.{◌≡◌, ℕ, List, [], ◌++◌, Option, Some, None, refl, sym, ap, subst, ◌∙◌, append_assoc, inl, inr, append-nil, Result, Ok, Err}
+use Rattle.std.proofs.Common.{◌≡◌, ℕ, List, [], ◌++◌, Option, Some, None, refl, sym, ap, subst, ◌∙◌, append_assoc, arith, inl, inr, append-nil, Result, Ok, Err}
 use Rattle.std.specs.Prelude.{OnOk, IfOk}
-use Rattle.np_host.specs.declared.stop.Stop.{Stop}
+use Rattle.np_ending.specs.declared.stop.Stop.{Stop}
 use Rattle.np_model.specs.declared.script.Page.{Page}
 use Rattle.np_model.specs.declared.page.Stage.{Stage}
 use Rattle.np_model.specs.declared.page.Stage.TheVariants as stages
@@ -14,13 +14,15 @@ use Rattle.np_model.specs.Journal.{end_line, refused_line}
 use Rattle.np_ports.specs.Peer.{Known}
 use Rattle.np_host_end.specs.HostEnd.{EndState, StandsFor, StandsLost}
 use Rattle.np_host_end.specs.declared.host_end.State.{State}
-use Rattle.np_host.specs.declared.ending.Ending.{Ending}
-use Rattle.np_host.specs.declared.ending.Ending.TheVariants.{Done, Unsent, Ended, Failed, Refused}
+use Rattle.np_ending.specs.declared.ending.Ending.{Ending}
+use Rattle.np_ending.specs.declared.ending.Ending.TheVariants.{Done, Unsent, Ended, Failed, Refused}
 use Rattle.np_prefix.specs.Alone.{RefusesAt}
 use Rattle.np_host.specs.Session.{BeginsWith, Completed, PeerEnded, PipeFailed, PeerRefused}
-use Rattle.np_host.specs.Causes.{Adds}
+use Rattle.np_ending.specs.Causes.{Adds}
 use Rattle.np_host.specs.Live.{Live, Going, AtEnding, Turned, Ran}
-use Rattle.np_host.specs.Closing.{Loses, Closed, SessionOutcome, status_of, IsRunStatus}
+use Rattle.np_model.specs.HostRun.{GoesOnLost}
+use Rattle.np_ending.specs.Status.{status_of, IsRunStatus}
+use Rattle.np_host.specs.Closing.{Loses, Closed, OutcomeOf, SessionOutcome}
 use Rattle.np_host.proofs.Exchanges.{waits-at, ends-at, refuses-at, total-is, all-taken}
 
 -- ---- the exchange
@@ -76,7 +78,7 @@ lines-lost first sink printed lines line whole e f =
 sent-part : (page : Page) (old now : Known) (first sink : List ℕ) (e : EndState) (l : Live page old first now sink e) → BeginsWith (encodings l.stands.side.sent) l.taken
 sent-part page old now first sink e l = record { rest = l.taken_part.rest; parts = l.stands.sent_is ∙ l.taken_part.parts }
 
-pub completes : (page : Page) (old now : Known) (first sink : List ℕ) (e : EndState) → AtEnding page old first now sink e Done → Completed page old first now (sink ++ end_line 0)
+completes : (page : Page) (old now : Known) (first sink : List ℕ) (e : EndState) → AtEnding page old first now sink e Done → Completed page old first now (sink ++ end_line 0)
 completes page old now first sink e a =
     let l = a.live in
     record {
@@ -89,7 +91,7 @@ completes page old now first sink e a =
       printed = lines-done first sink l.printed e.journal (end_line 0) l.stands.side.journal l.sink_is l.stands.printed_is a.quiet;
     }
 
-pub unsent : (page : Page) (old now : Known) (first sink : List ℕ) (e : EndState) → AtEnding page old first now sink e Unsent → PipeFailed page old first now (sink ++ end_line 6)
+unsent : (page : Page) (old now : Known) (first sink : List ℕ) (e : EndState) → AtEnding page old first now sink e Unsent → PipeFailed page old first now (sink ++ end_line 6)
 unsent page old now first sink e a =
     let l = a.live in
     record {
@@ -103,42 +105,41 @@ unsent page old now first sink e a =
       printed = lines-done first sink l.printed e.journal (end_line 6) l.stands.side.journal l.sink_is l.stands.printed_is a.quiet;
     }
 
-pub peer-ended : (page : Page) (old now : Known) (first sink : List ℕ) (taken0 taken1 : Option (List ℕ)) (e : EndState) → taken0 ≡ Some sink → Loses taken0 taken1 e → AtEnding page old first now sink e Ended → (more : List ℕ) × (taken1 ≡ Some more) × PeerEnded page old first now (more ++ end_line 5)
-peer-ended page old now first sink taken0 taken1 e told lose a =
-    let l = a.live in
-    let x = lose page l.got l.sent l.printed sink l.stands told in (
-      sink ++ x.1,
-      x.4,
-      record {
-        got = l.got;
-        sent = l.taken;
-        side = l.stands.side;
-        last = x.0;
-        exchanged = l.exchanged;
-        waits = waits-at page l.got l.sent l.printed e a.ends.2 l.stands;
-        lost = x.2;
-        sent_is = all-taken page l.got l.sent l.printed l.taken e a.ends.0 a.ends.1 l.stands;
-        printed = lines-lost first sink l.printed x.1 (end_line 5) x.0.journal l.sink_is x.3;
-      },
-    )
+-- from here the page goes on alone, and writes these lines after those that were printed
+pub record GoesOnWith (page : Page) (side : SideState PageControl) (printed lines : List ℕ) : Type 0 where
+  pub last : SideState PageControl
+  pub lost : GoesOnLost page side last
+  pub lines_are : last.journal ≡ printed ++ lines
 
-pub peer-failed : (page : Page) (old now : Known) (first sink : List ℕ) (taken0 taken1 : Option (List ℕ)) (e : EndState) → taken0 ≡ Some sink → Loses taken0 taken1 e → AtEnding page old first now sink e Failed → (more : List ℕ) × (taken1 ≡ Some more) × PipeFailed page old first now (more ++ end_line 6)
-peer-failed page old now first sink taken0 taken1 e told lose a =
+peer-ended : (page : Page) (old now : Known) (first sink lines : List ℕ) (e : EndState) (a : AtEnding page old first now sink e Ended) → GoesOnWith page a.live.stands.side a.live.printed lines → PeerEnded page old first now ((sink ++ lines) ++ end_line 5)
+peer-ended page old now first sink lines e a w =
     let l = a.live in
-    let x = lose page l.got l.sent l.printed sink l.stands told in (
-      sink ++ x.1,
-      x.4,
-      record {
-        got = l.got;
-        sent = l.taken;
-        side = l.stands.side;
-        lines = x.0.journal;
-        exchanged = l.exchanged;
-        rests = inl (waits-at page l.got l.sent l.printed e a.ends l.stands, (x.0, x.2, refl));
-        sent_part = sent-part page old now first sink e l;
-        printed = lines-lost first sink l.printed x.1 (end_line 6) x.0.journal l.sink_is x.3;
-      },
-    )
+    record {
+      got = l.got;
+      sent = l.taken;
+      side = l.stands.side;
+      last = w.last;
+      exchanged = l.exchanged;
+      waits = waits-at page l.got l.sent l.printed e a.ends.2 l.stands;
+      below_limit = (let n = total-is page l.got l.sent l.printed e a.ends.2 l.stands in let below = a.ends.3 in omega (arith, n, below));
+      lost = w.lost;
+      sent_is = all-taken page l.got l.sent l.printed l.taken e a.ends.0 a.ends.1 l.stands;
+      printed = lines-lost first sink l.printed lines (end_line 5) w.last.journal l.sink_is w.lines_are;
+    }
+
+peer-failed : (page : Page) (old now : Known) (first sink lines : List ℕ) (e : EndState) (a : AtEnding page old first now sink e Failed) → GoesOnWith page a.live.stands.side a.live.printed lines → PipeFailed page old first now ((sink ++ lines) ++ end_line 6)
+peer-failed page old now first sink lines e a w =
+    let l = a.live in
+    record {
+      got = l.got;
+      sent = l.taken;
+      side = l.stands.side;
+      lines = w.last.journal;
+      exchanged = l.exchanged;
+      rests = inl (waits-at page l.got l.sent l.printed e a.ends l.stands, (w.last, w.lost, refl));
+      sent_part = sent-part page old now first sink e l;
+      printed = lines-lost first sink l.printed lines (end_line 6) w.last.journal l.sink_is w.lines_are;
+    }
 
 refusal-is : (page : Page) (old now : Known) (first sink : List ℕ) (e : EndState) (r : Refusal) (a : AtEnding page old first now sink e (Refused r)) → RefusesAt page a.live.got a.live.stands.side r
 refusal-is page old now first sink e r a =
@@ -149,25 +150,72 @@ refusal-is page old now first sink e r a =
           record { comes_to = w.comes_to; refusal = inr (w, sym (total-is page l.got l.sent l.printed e full.0 l.stands) ∙ full.1, full.2) })
     ]
 
-pub peer-refused : (page : Page) (old now : Known) (first sink : List ℕ) (taken0 taken1 : Option (List ℕ)) (e : EndState) (r : Refusal) → taken0 ≡ Some sink → Loses taken0 taken1 e → AtEnding page old first now sink e (Refused r) → (more : List ℕ) × (taken1 ≡ Some more) × PeerRefused page old first now (more ++ refused_line r)
-peer-refused page old now first sink taken0 taken1 e r told lose a =
+peer-refused : (page : Page) (old now : Known) (first sink lines : List ℕ) (e : EndState) (r : Refusal) (a : AtEnding page old first now sink e (Refused r)) → GoesOnWith page a.live.stands.side a.live.printed lines → PeerRefused page old first now ((sink ++ lines) ++ refused_line r)
+peer-refused page old now first sink lines e r a w =
     let l = a.live in
-    let x = lose page l.got l.sent l.printed sink l.stands told in (
-      sink ++ x.1,
-      x.4,
-      record {
-        got = l.got;
-        sent = l.taken;
-        side = l.stands.side;
-        last = x.0;
-        refusal = r;
-        exchanged = l.exchanged;
-        refuses = refusal-is page old now first sink e r a;
-        lost = x.2;
-        sent_part = sent-part page old now first sink e l;
-        printed = lines-lost first sink l.printed x.1 (refused_line r) x.0.journal l.sink_is x.3;
-      },
-    )
+    record {
+      got = l.got;
+      sent = l.taken;
+      side = l.stands.side;
+      last = w.last;
+      refusal = r;
+      exchanged = l.exchanged;
+      refuses = refusal-is page old now first sink e r a;
+      lost = w.lost;
+      sent_part = sent-part page old now first sink e l;
+      printed = lines-lost first sink l.printed lines (refused_line r) w.last.journal l.sink_is w.lines_are;
+    }
+
+-- ---- endings
+
+-- the page had ended, or its plug-in is lost
+abbrev pub IsPageEnd : Ending → Type 0
+IsPageEnd Done = Unit {0}
+IsPageEnd Unsent = Unit {0}
+IsPageEnd Ended = ⊥
+IsPageEnd Failed = ⊥
+IsPageEnd (Refused r) = ⊥
+
+abbrev pub IsLoss : Ending → Type 0
+IsLoss Done = ⊥
+IsLoss Unsent = ⊥
+IsLoss Ended = Unit {0}
+IsLoss Failed = Unit {0}
+IsLoss (Refused r) = Unit {0}
+
+abbrev pub last_line : Ending → List ℕ
+last_line Done = end_line 0
+last_line Unsent = end_line 6
+last_line Ended = end_line 5
+last_line Failed = end_line 6
+last_line (Refused r) = refused_line r
+
+-- what comes of an ending where its last line is printed
+pub page-end : (page : Page) (old now : Known) (first sink : List ℕ) (e : EndState) (ending : Ending) → IsPageEnd ending → AtEnding page old first now sink e ending → OutcomeOf page old first now (sink ++ last_line ending) ending
+page-end page old now first sink e Done is a = completes page old now first sink e a
+page-end page old now first sink e Unsent is a = unsent page old now first sink e a
+page-end page old now first sink e Ended is a = absurd is
+page-end page old now first sink e Failed is a = absurd is
+page-end page old now first sink e (Refused r) is a = absurd is
+
+pub loss : (page : Page) (old now : Known) (first sink lines : List ℕ) (e : EndState) (ending : Ending) → IsLoss ending → (a : AtEnding page old first now sink e ending) → GoesOnWith page a.live.stands.side a.live.printed lines → OutcomeOf page old first now ((sink ++ lines) ++ last_line ending) ending
+loss page old now first sink lines e Done is a w = absurd is
+loss page old now first sink lines e Unsent is a w = absurd is
+loss page old now first sink lines e Ended is a w = peer-ended page old now first sink lines e a w
+loss page old now first sink lines e Failed is a w = peer-failed page old now first sink lines e a w
+loss page old now first sink lines e (Refused r) is a w = peer-refused page old now first sink lines e r a w
+
+-- where the page goes on alone, its lines were printed
+pub record WasLost (page : Page) (side : SideState PageControl) (printed sink : List ℕ) (taken : Option (List ℕ)) : Type 0 where
+  pub lines : List ℕ
+  pub goes_on : GoesOnWith page side printed lines
+  pub taken_is : taken ≡ Some (sink ++ lines)
+
+pub was-lost : (page : Page) (old now : Known) (first sink : List ℕ) (taken0 taken1 : Option (List ℕ)) (e : EndState) (ending : Ending) (a : AtEnding page old first now sink e ending) → taken0 ≡ Some sink → Loses taken0 taken1 e → WasLost page a.live.stands.side a.live.printed sink taken1
+was-lost page old now first sink taken0 taken1 e ending a told lose =
+    let l = a.live in
+    let x = lose page l.got l.sent l.printed sink l.stands told in
+    record { lines = x.1; goes_on = record { last = x.0; lost = x.2; lines_are = x.3 }; taken_is = x.4 }
 
 -- ---- the whole session
 
@@ -186,26 +234,14 @@ pub on-status : (result : Result ℕ Stop) (A : Type 0) (P : ℕ → Type 0) →
 on-status (Ok status) A P f h = f h status
 on-status (Err stop) A P f h = tt
 
-pub closed-done : (taken0 taken1 : Option (List ℕ)) (e : EndState) (ending : Ending) → ending ≡ Done → Adds taken0 taken1 (end_line 0) → (status : ℕ) → Closed taken0 taken1 e ending status
-closed-done taken0 taken1 e ending is adds status = subst (λ (x : Ending). Closed taken0 taken1 e x status) (sym is) (λ page old now first sink told a. (sink ++ end_line 0, adds sink told, completes page old now first sink e a))
+-- an ending of this kind
+pub closed-page : (taken0 taken1 : Option (List ℕ)) (e : EndState) (ending kind : Ending) → ending ≡ kind → IsPageEnd kind → Adds taken0 taken1 (last_line kind) → (status : ℕ) → Closed taken0 taken1 e ending status
+closed-page taken0 taken1 e ending kind is end adds status = subst (λ (x : Ending). Closed taken0 taken1 e x status) (sym is) (λ page old now first sink told a. (sink ++ last_line kind, adds sink told, page-end page old now first sink e kind end a))
 
-pub closed-unsent : (taken0 taken1 : Option (List ℕ)) (e : EndState) (ending : Ending) → ending ≡ Unsent → Adds taken0 taken1 (end_line 6) → (status : ℕ) → Closed taken0 taken1 e ending status
-closed-unsent taken0 taken1 e ending is adds status = subst (λ (x : Ending). Closed taken0 taken1 e x status) (sym is) (λ page old now first sink told a. (sink ++ end_line 6, adds sink told, unsent page old now first sink e a))
-
-pub closed-ended : (taken0 taken1 taken2 : Option (List ℕ)) (e : EndState) (ending : Ending) → ending ≡ Ended → Loses taken0 taken1 e → Adds taken1 taken2 (end_line 5) → (status : ℕ) → Closed taken0 taken2 e ending status
-closed-ended taken0 taken1 taken2 e ending is lose adds status = subst (λ (x : Ending). Closed taken0 taken2 e x status) (sym is) (λ page old now first sink told a.
-    let x = peer-ended page old now first sink taken0 taken1 e told lose a in
-    (x.0 ++ end_line 5, adds x.0 x.1, x.2))
-
-pub closed-failed : (taken0 taken1 taken2 : Option (List ℕ)) (e : EndState) (ending : Ending) → ending ≡ Failed → Loses taken0 taken1 e → Adds taken1 taken2 (end_line 6) → (status : ℕ) → Closed taken0 taken2 e ending status
-closed-failed taken0 taken1 taken2 e ending is lose adds status = subst (λ (x : Ending). Closed taken0 taken2 e x status) (sym is) (λ page old now first sink told a.
-    let x = peer-failed page old now first sink taken0 taken1 e told lose a in
-    (x.0 ++ end_line 6, adds x.0 x.1, x.2))
-
-pub closed-refused : (taken0 taken1 taken2 : Option (List ℕ)) (e : EndState) (ending : Ending) (r : Refusal) → ending ≡ Refused r → Loses taken0 taken1 e → Adds taken1 taken2 (refused_line r) → (status : ℕ) → Closed taken0 taken2 e ending status
-closed-refused taken0 taken1 taken2 e ending r is lose adds status = subst (λ (x : Ending). Closed taken0 taken2 e x status) (sym is) (λ page old now first sink told a.
-    let x = peer-refused page old now first sink taken0 taken1 e r told lose a in
-    (x.0 ++ refused_line r, adds x.0 x.1, x.2))
+pub closed-loss : (taken0 taken1 taken2 : Option (List ℕ)) (e : EndState) (ending kind : Ending) → ending ≡ kind → IsLoss kind → Loses taken0 taken1 e → Adds taken1 taken2 (last_line kind) → (status : ℕ) → Closed taken0 taken2 e ending status
+closed-loss taken0 taken1 taken2 e ending kind is lost lose adds status = subst (λ (x : Ending). Closed taken0 taken2 e x status) (sym is) (λ page old now first sink told a.
+    let x = was-lost page old now first sink taken0 taken1 e kind a told lose in
+    ((sink ++ x.lines) ++ last_line kind, adds (sink ++ x.lines) x.taken_is, loss page old now first sink x.lines e kind lost a x.goes_on))
 
 run-status : (ending : Ending) → IsRunStatus (status_of ending)
 run-status Done = inl refl

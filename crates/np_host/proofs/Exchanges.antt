@@ -1,5 +1,5 @@
 -- How an exchange goes on.
-use Rattle.std.proofs.Common.{◌≡◌, ℕ, ◌+◌, ◌-◌, ◌^◌, List, [], ◌∷◌, ◌++◌, length, Bool, true, false, Option, Some, None, refl, sym, ap, subst, ◌∙◌, append_assoc, arith, inl, inr}
+use Rattle.std.proofs.Common.{◌≡◌, ℕ, ◌+◌, ◌-◌, ◌^◌, ◌<◌, List, [], ◌∷◌, ◌++◌, length, Bool, true, false, Option, Some, None, refl, sym, ap, subst, ◌∙◌, append_assoc, arith, inl, inr}
 use Rattle.std.specs.List.{AllByRecursion}
 use Rattle.std.proofs.lemmas.List.{length-append, take_all, take-append-le, append-nil}
 use Rattle.np_model.specs.declared.script.Page.{Page}
@@ -10,11 +10,12 @@ use Rattle.np_model.specs.Side.{SideState}
 use Rattle.np_model.specs.PagePlan.{PageControl}
 use Rattle.np_model.specs.HostRun.{IsAwaiting}
 use Rattle.np_ports.specs.Peer.{Known, took, gave, asked}
-use Rattle.np_host_end.specs.HostEnd.{EndState, StandsFor, HasLeft, IsRefusal, RestsAs, total_of}
+use Rattle.np_host_end.specs.HostEnd.{EndState, StandsFor, HasLeft, RestsAs, total_of}
+use Rattle.np_model.specs.HostRun.{IsRefusal}
 use Rattle.np_host_end.specs.declared.host_end.State.{State}
 use Rattle.np_host_end.specs.declared.host_end.State.TheVariants.{Waiting, Finished, Refused}
-use Rattle.np_host.specs.declared.ending.Ending.{Ending}
-use Rattle.np_host.specs.declared.ending.Ending.TheVariants as endings
+use Rattle.np_ending.specs.declared.ending.Ending.{Ending}
+use Rattle.np_ending.specs.declared.ending.Ending.TheVariants as endings
 use Rattle.np_prefix.specs.Alone.{ComesTo, WaitsAt, EndsAt, RefusesAt, too_many_bytes}
 use Rattle.np_host.specs.Session.{ReadsWell, Exchanged}
 use Rattle.np_host.specs.Flow.{SentAll, SentPart, Sent}
@@ -64,7 +65,7 @@ reads-now page old now got sent side x w sent_is =
       within_sent = omega (arith, taken_size);
     }
 
-exchanged-read : (page : Page) (old now next : Known) (got sent bytes : List ℕ) (side : SideState PageControl) → Exchanged page old now got sent → WaitsAt page got side → sent ≡ encodings side.sent
+pub exchanged-read : (page : Page) (old now next : Known) (got sent bytes : List ℕ) (side : SideState PageControl) → Exchanged page old now got sent → WaitsAt page got side → sent ≡ encodings side.sent
     → next.given ≡ now.given ++ bytes → next.taken ≡ now.taken → next.starts ≡ now.starts → next.reads ≡ now.reads ++ (length now.taken, length now.given) ∷ [] → Exchanged page old next (got ++ bytes) sent
 exchanged-read page old now next got sent bytes side x w sent_is given taken starts reads =
     let r : ℕ × ℕ = (length now.taken, length now.given) in
@@ -80,7 +81,7 @@ exchanged-read page old now next got sent bytes side x w sent_is given taken sta
 
 -- ---- where an end waits, has finished or refuses
 
-abbrev comes-to : (page : Page) (got sent printed : List ℕ) (e : EndState) (s : StandsFor page got sent printed e) → ComesTo page got s.side
+abbrev pub comes-to : (page : Page) (got sent printed : List ℕ) (e : EndState) (s : StandsFor page got sent printed e) → ComesTo page got s.side
 comes-to page got sent printed e s = record { turns = s.turns; left = s.left; comes = s.comes; messages = s.messages; got_is = s.got_is }
 
 pub waits-at : (page : Page) (got sent printed : List ℕ) (e : EndState) → Waits e → (s : StandsFor page got sent printed e) → WaitsAt page got s.side
@@ -337,8 +338,8 @@ listening known0 known1 taken0 taken1 e0 e2 s sent t unrefused unfinished all pa
 pub turned-full : (known1 : Option Known) (taken1 : Option (List ℕ)) (e2 : EndState) (page : Page) (old : Known) (first : List ℕ) → total_of e2 ≡ 2 ^ 40 → Listening page old first known1 taken1 e2 → (next : Known) × (more : List ℕ) × (known1 ≡ Some next) × (taken1 ≡ Some more) × AtEnding page old first next more e2 (endings.Refused too_many_bytes)
 turned-full known1 taken1 e2 page old first full l = (l.now, l.sink, l.known_is, l.taken_is, record { live = l.going.live; quiet = l.quiet; ends = inr (l.waits, full, refl) })
 
-pub turned-heard : (known1 known2 : Option Known) (taken1 : Option (List ℕ)) (e2 e3 : EndState) (ending : Option Ending) → HeardOn known1 known2 e2 e3 ending → (page : Page) (old : Known) (first : List ℕ) → Listening page old first known1 taken1 e2 → (next : Known) × (more : List ℕ) × (known2 ≡ Some next) × (taken1 ≡ Some more) × After page old first next more e3 ending
-turned-heard known1 known2 taken1 e2 e3 None h page old first l =
+pub turned-heard : (known1 known2 : Option Known) (taken1 : Option (List ℕ)) (e2 e3 : EndState) (ending : Option Ending) → total_of e2 < 2 ^ 40 → HeardOn known1 known2 e2 e3 ending → (page : Page) (old : Known) (first : List ℕ) → Listening page old first known1 taken1 e2 → (next : Known) × (more : List ℕ) × (known2 ≡ Some next) × (taken1 ≡ Some more) × After page old first next more e3 ending
+turned-heard known1 known2 taken1 e2 e3 None below h page old first l =
     let n = h.0 in
     let k = h.1.known l.now l.known_is in (
       gave l.now n k.0,
@@ -347,15 +348,15 @@ turned-heard known1 known2 taken1 e2 e3 None h page old first l =
       l.taken_is,
       live-read page old l.now (gave l.now n k.0) first l.sink h.1.bytes e2 e3 l.going l.nothing l.waits (ap (λ (x : List ℕ). l.now.given ++ x) (sym k.1)) refl refl refl h.1.stands,
     )
-turned-heard known1 known2 taken1 e2 e3 (Some endings.Done) h page old first l = absurd h
-turned-heard known1 known2 taken1 e2 e3 (Some endings.Unsent) h page old first l = absurd h
-turned-heard known1 known2 taken1 e2 e3 (Some endings.Ended) h page old first l =
+turned-heard known1 known2 taken1 e2 e3 (Some endings.Done) below h page old first l = absurd h
+turned-heard known1 known2 taken1 e2 e3 (Some endings.Unsent) below h page old first l = absurd h
+turned-heard known1 known2 taken1 e2 e3 (Some endings.Ended) below h page old first l =
     let k = (h.known l.now l.known_is).1 in
     let next = gave l.now 0 k.0 in
     let g = live-read page old l.now next first l.sink [] e2 e3 l.going l.nothing l.waits refl refl refl refl (stands-nothing e2 e3 h.same) in
-    (next, l.sink, k.1, l.taken_is, record { live = g.live; quiet = ap (λ (x : EndState). x.journal) h.same ∙ l.quiet; ends = (g.whole, ap (λ (x : EndState). x.outgoing) h.same ∙ l.nothing, subst Waits (sym h.same) l.waits) })
-turned-heard known1 known2 taken1 e2 e3 (Some endings.Failed) h page old first l =
+    (next, l.sink, k.1, l.taken_is, record { live = g.live; quiet = ap (λ (x : EndState). x.journal) h.same ∙ l.quiet; ends = (g.whole, ap (λ (x : EndState). x.outgoing) h.same ∙ l.nothing, subst Waits (sym h.same) l.waits, subst (λ (e : EndState). total_of e < 2 ^ 40) (sym h.same) below) })
+turned-heard known1 known2 taken1 e2 e3 (Some endings.Failed) below h page old first l =
     let next = asked l.now in
     let g = live-read page old l.now next first l.sink [] e2 e3 l.going l.nothing l.waits (sym (append-nil l.now.given)) refl refl refl (stands-nothing e2 e3 h.same) in
     (next, l.sink, h.known l.now l.known_is, l.taken_is, record { live = g.live; quiet = ap (λ (x : EndState). x.journal) h.same ∙ l.quiet; ends = subst Waits (sym h.same) l.waits })
-turned-heard known1 known2 taken1 e2 e3 (Some (endings.Refused r)) h page old first l = absurd h
+turned-heard known1 known2 taken1 e2 e3 (Some (endings.Refused r)) below h page old first l = absurd h

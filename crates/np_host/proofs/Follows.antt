@@ -4,20 +4,21 @@ use Rattle.std.specs.List.{AllByRecursion}
 use Rattle.std.proofs.lemmas.List.{take-append-drop, append_cancel_left}
 use Rattle.np_model.specs.declared.script.Page.{Page}
 use Rattle.np_model.specs.Encoding.{encodings}
-use Rattle.np_model.specs.PluginPlan.{Plugin}
+use Rattle.np_model.specs.declared.script.Plugin.{Plugin}
 use Rattle.np_model.specs.HostRun.{IsPluginText}
 use Rattle.np_ports.specs.Peer.{Known, started}
 use Rattle.np_ports.specs.Files.{Contents}
 use Rattle.np_prefix.specs.Alone.{WaitsAt, EndsAt, RefusesAt}
+use Rattle.np_script.specs.Canonical.{PagesAreWellFormed}
 use Rattle.np_prefix.specs.Prefix.{WaitsLaw, EndsLaw, NeverRefusesLaw, FewBytesLaw}
-use Rattle.np_host.specs.declared.ending.Ending.{Ending}
-use Rattle.np_host.specs.declared.ending.Ending.TheVariants as endings
+use Rattle.np_ending.specs.declared.ending.Ending.{Ending}
+use Rattle.np_ending.specs.declared.ending.Ending.TheVariants as endings
 use Rattle.np_host.specs.Words.{RunWords, run_words}
 use Rattle.np_host.specs.Session.{ReadsWell, Exchanged, Completed, PeerEnded, PipeFailed, PeerRefused}
-use Rattle.np_host.specs.Closing.{OutcomeOf, status_of, IsRunStatus}
+use Rattle.np_ending.specs.Status.{status_of, IsRunStatus}
+use Rattle.np_host.specs.Closing.{OutcomeOf}
 use Rattle.np_host.specs.Host.{OfWords, RunsPage, RunsWords}
 use Rattle.np_host.specs.Main.{ReadFollows, FollowsExchange, HostDone, HostLost, HostBroken, HostRefused, FollowsPage, FollowsWords}
-use Rattle.np_host.proofs.FewCommands.{few-commands}
 
 -- a prefix of a prefix
 shorter-text : (page : Page) (plugin : Plugin) (given : List ℕ) (n : ℕ) → IsPluginText page plugin given → IsPluginText page plugin (take n given)
@@ -36,7 +37,7 @@ each-follows : WaitsLaw → (page : Page) (plugin : Plugin) (old : Known) (given
 each-follows waits page plugin old given taken [] t all = tt
 each-follows waits page plugin old given taken (r ∷ rs) t all = (read-follows waits page plugin old given taken r t all.0, each-follows waits page plugin old given taken rs t all.1)
 
-exchange-follows : WaitsLaw → (page : Page) (plugin : Plugin) (old new : Known) (given taken : List ℕ) → IsPluginText page plugin given → Exchanged page old new given taken → FollowsExchange page plugin old new given taken
+pub exchange-follows : WaitsLaw → (page : Page) (plugin : Plugin) (old new : Known) (given taken : List ℕ) → IsPluginText page plugin given → Exchanged page old new given taken → FollowsExchange page plugin old new given taken
 exchange-follows waits page plugin old new given taken t x = record {
   reads = x.reads;
   taken_is = x.taken;
@@ -46,10 +47,10 @@ exchange-follows waits page plugin old new given taken t x = record {
 }
 
 -- the bytes that the session got are those that the peer gave
-same-given : (page : Page) (old new : Known) (got sent given : List ℕ) → Exchanged page old new got sent → new.given ≡ old.given ++ given → got ≡ given
+pub same-given : (page : Page) (old new : Known) (got sent given : List ℕ) → Exchanged page old new got sent → new.given ≡ old.given ++ given → got ≡ given
 same-given page old new got sent given x e = append_cancel_left old.given got given (sym x.given ∙ e)
 
-done-follows : WaitsLaw → EndsLaw → (page : Page) (plugin : Plugin) (old : Known) (first : List ℕ) (new : Known) (sink given : List ℕ) → Completed page old first new sink → new.given ≡ old.given ++ given → IsPluginText page plugin given → HostDone page plugin old first new sink given
+pub done-follows : WaitsLaw → EndsLaw → (page : Page) (plugin : Plugin) (old : Known) (first : List ℕ) (new : Known) (sink given : List ℕ) → Completed page old first new sink → new.given ≡ old.given ++ given → IsPluginText page plugin given → HostDone page plugin old first new sink given
 done-follows waits ends page plugin old first new sink given c e t =
     let same = same-given page old new c.got c.sent given c.exchanged e in
     let at = subst (λ (l : List ℕ). EndsAt page l c.side) same c.ends in
@@ -65,7 +66,7 @@ done-follows waits ends page plugin old first new sink given c e t =
       exchange = exchange-follows waits page plugin old new given (encodings c.side.sent) t (subst (λ (l : List ℕ). Exchanged page old new given l) c.sent_is y);
     }
 
-lost-follows : WaitsLaw → (page : Page) (plugin : Plugin) (old : Known) (first : List ℕ) (new : Known) (sink given : List ℕ) → PeerEnded page old first new sink → new.given ≡ old.given ++ given → IsPluginText page plugin given → HostLost page plugin old first new sink given
+pub lost-follows : WaitsLaw → (page : Page) (plugin : Plugin) (old : Known) (first : List ℕ) (new : Known) (sink given : List ℕ) → PeerEnded page old first new sink → new.given ≡ old.given ++ given → IsPluginText page plugin given → HostLost page plugin old first new sink given
 lost-follows waits page plugin old first new sink given c e t =
     let same = same-given page old new c.got c.sent given c.exchanged e in
     let at = subst (λ (l : List ℕ). WaitsAt page l c.side) same c.waits in
@@ -83,7 +84,7 @@ lost-follows waits page plugin old first new sink given c e t =
       exchange = exchange-follows waits page plugin old new given (encodings c.side.sent) t (subst (λ (l : List ℕ). Exchanged page old new given l) c.sent_is y);
     }
 
-broken-follows : WaitsLaw → EndsLaw → (page : Page) (plugin : Plugin) (old : Known) (first : List ℕ) (new : Known) (sink given : List ℕ) → PipeFailed page old first new sink → new.given ≡ old.given ++ given → IsPluginText page plugin given → HostBroken page plugin old first new sink given
+pub broken-follows : WaitsLaw → EndsLaw → (page : Page) (plugin : Plugin) (old : Known) (first : List ℕ) (new : Known) (sink given : List ℕ) → PipeFailed page old first new sink → new.given ≡ old.given ++ given → IsPluginText page plugin given → HostBroken page plugin old first new sink given
 broken-follows waits ends page plugin old first new sink given c e t =
     let same = same-given page old new c.got c.sent given c.exchanged e in
     let y = exchange-follows waits page plugin old new given c.sent t (subst (λ (l : List ℕ). Exchanged page old new l c.sent) same c.exchanged) in
@@ -96,7 +97,7 @@ broken-follows waits ends page plugin old first new sink given c e t =
           record { n = length c.side.examined; side = c.side; lines = c.lines; taken = c.sent; whole = x.1; rests = x.0; lines_are = inr (at.ended, d.1); printed = c.printed; taken_part = c.sent_part; exchange = y })
     ]
 
-never-refused : NeverRefusesLaw → FewBytesLaw → (page : Page) (plugin : Plugin) (old : Known) (first : List ℕ) (new : Known) (sink given : List ℕ) → length page.commands ≤ 1048576 → PeerRefused page old first new sink → new.given ≡ old.given ++ given → IsPluginText page plugin given → ⊥
+pub never-refused : NeverRefusesLaw → FewBytesLaw → (page : Page) (plugin : Plugin) (old : Known) (first : List ℕ) (new : Known) (sink given : List ℕ) → length page.commands ≤ 1048576 → PeerRefused page old first new sink → new.given ≡ old.given ++ given → IsPluginText page plugin given → ⊥
 never-refused never few page plugin old first new sink given short c e t =
     let same = same-given page old new c.got c.sent given c.exchanged e in
     let at = subst (λ (l : List ℕ). RefusesAt page l c.side c.refusal) same c.refuses in
@@ -136,34 +137,34 @@ ends-refused page old first new sink endings.Failed e o = absurd (omega arith)
 ends-refused page old first new sink (endings.Refused r) e o = o
 
 -- what holds of each page that ran to this status holds of the run of the words
-pub from-page : (outcome : Page → Plugin → Known → List ℕ → Known → List ℕ → List ℕ → Type 0) (words : List (List ℕ)) (files : Option Contents) (known0 known1 : Option Known) (taken0 taken1 : Option (List ℕ)) (status : ℕ) → IsRunStatus status
+pub from-page : PagesAreWellFormed → (outcome : Page → Plugin → Known → List ℕ → Known → List ℕ → List ℕ → Type 0) (words : List (List ℕ)) (files : Option Contents) (known0 known1 : Option Known) (taken0 taken1 : Option (List ℕ)) (status : ℕ) → IsRunStatus status
     → ((page : Page) (plugin : Plugin) (old : Known) (first : List ℕ) (new : Known) (sink given : List ℕ) (ending : Ending) → length page.commands ≤ 1048576 → status ≡ status_of ending → OutcomeOf page old first new sink ending → new.given ≡ old.given ++ given → IsPluginText page plugin given → outcome page plugin old first new sink given)
     → RunsWords words files known0 known1 taken0 taken1 status → FollowsWords outcome words files known0 known1 taken0 taken1
-from-page outcome words files known0 known1 taken0 taken1 status ran each runs = at (run_words words) runs
+from-page formed outcome words files known0 known1 taken0 taken1 status ran each runs = at (run_words words) runs
   where
     at : (o : Option RunWords) → OfWords o (λ r. RunsPage r.page r.program files known0 known1 taken0 taken1 status) (IsRunStatus status → ⊥) → OfWords o (λ r. FollowsPage outcome r.page r.program files known0 known1 taken0 taken1) ⊥
     at None h = h ran
     at (Some r) h = λ f old first told k o.
         let x = h ran f old first told k o in
         let y = x.4 in
-        (x.0, x.2, (y.0, y.1, y.2, y.3, λ plugin given e t. each x.0 plugin (started old r.program) first y.0 y.1 given x.1 (few-commands (f r.page) x.0 x.2) x.3 y.4 e t))
+        (x.0, x.2, (y.0, y.1, y.2, y.3, λ plugin given e t. each x.0 plugin (started old r.program) first y.0 y.1 given x.1 (formed (f r.page) x.0 x.2).1 x.3 y.4 e t))
 
-pub follows-done : WaitsLaw → EndsLaw → (words : List (List ℕ)) (files : Option Contents) (known0 known1 : Option Known) (taken0 taken1 : Option (List ℕ)) (status : ℕ) → status ≡ 0 → RunsWords words files known0 known1 taken0 taken1 status → FollowsWords HostDone words files known0 known1 taken0 taken1
-follows-done waits ends words files known0 known1 taken0 taken1 status is runs =
-    from-page HostDone words files known0 known1 taken0 taken1 status (inl is)
+pub follows-done : PagesAreWellFormed → WaitsLaw → EndsLaw → (words : List (List ℕ)) (files : Option Contents) (known0 known1 : Option Known) (taken0 taken1 : Option (List ℕ)) (status : ℕ) → status ≡ 0 → RunsWords words files known0 known1 taken0 taken1 status → FollowsWords HostDone words files known0 known1 taken0 taken1
+follows-done formed waits ends words files known0 known1 taken0 taken1 status is runs =
+    from-page formed HostDone words files known0 known1 taken0 taken1 status (inl is)
     (λ page plugin old first new sink given ending short s o e t. done-follows waits ends page plugin old first new sink given (ends-done page old first new sink ending (sym is ∙ s) o) e t) runs
 
-pub follows-lost : WaitsLaw → (words : List (List ℕ)) (files : Option Contents) (known0 known1 : Option Known) (taken0 taken1 : Option (List ℕ)) (status : ℕ) → status ≡ 5 → RunsWords words files known0 known1 taken0 taken1 status → FollowsWords HostLost words files known0 known1 taken0 taken1
-follows-lost waits words files known0 known1 taken0 taken1 status is runs =
-    from-page HostLost words files known0 known1 taken0 taken1 status (inr (inl is))
+pub follows-lost : PagesAreWellFormed → WaitsLaw → (words : List (List ℕ)) (files : Option Contents) (known0 known1 : Option Known) (taken0 taken1 : Option (List ℕ)) (status : ℕ) → status ≡ 5 → RunsWords words files known0 known1 taken0 taken1 status → FollowsWords HostLost words files known0 known1 taken0 taken1
+follows-lost formed waits words files known0 known1 taken0 taken1 status is runs =
+    from-page formed HostLost words files known0 known1 taken0 taken1 status (inr (inl is))
     (λ page plugin old first new sink given ending short s o e t. lost-follows waits page plugin old first new sink given (ends-lost page old first new sink ending (sym is ∙ s) o) e t) runs
 
-pub follows-broken : WaitsLaw → EndsLaw → (words : List (List ℕ)) (files : Option Contents) (known0 known1 : Option Known) (taken0 taken1 : Option (List ℕ)) (status : ℕ) → status ≡ 6 → RunsWords words files known0 known1 taken0 taken1 status → FollowsWords HostBroken words files known0 known1 taken0 taken1
-follows-broken waits ends words files known0 known1 taken0 taken1 status is runs =
-    from-page HostBroken words files known0 known1 taken0 taken1 status (inr (inr (inl is)))
+pub follows-broken : PagesAreWellFormed → WaitsLaw → EndsLaw → (words : List (List ℕ)) (files : Option Contents) (known0 known1 : Option Known) (taken0 taken1 : Option (List ℕ)) (status : ℕ) → status ≡ 6 → RunsWords words files known0 known1 taken0 taken1 status → FollowsWords HostBroken words files known0 known1 taken0 taken1
+follows-broken formed waits ends words files known0 known1 taken0 taken1 status is runs =
+    from-page formed HostBroken words files known0 known1 taken0 taken1 status (inr (inr (inl is)))
     (λ page plugin old first new sink given ending short s o e t. broken-follows waits ends page plugin old first new sink given (ends-broken page old first new sink ending (sym is ∙ s) o) e t) runs
 
-pub follows-refused : NeverRefusesLaw → FewBytesLaw → (words : List (List ℕ)) (files : Option Contents) (known0 known1 : Option Known) (taken0 taken1 : Option (List ℕ)) (status : ℕ) → status ≡ 7 → RunsWords words files known0 known1 taken0 taken1 status → FollowsWords HostRefused words files known0 known1 taken0 taken1
-follows-refused never few words files known0 known1 taken0 taken1 status is runs =
-    from-page HostRefused words files known0 known1 taken0 taken1 status (inr (inr (inr is)))
+pub follows-refused : PagesAreWellFormed → NeverRefusesLaw → FewBytesLaw → (words : List (List ℕ)) (files : Option Contents) (known0 known1 : Option Known) (taken0 taken1 : Option (List ℕ)) (status : ℕ) → status ≡ 7 → RunsWords words files known0 known1 taken0 taken1 status → FollowsWords HostRefused words files known0 known1 taken0 taken1
+follows-refused formed never few words files known0 known1 taken0 taken1 status is runs =
+    from-page formed HostRefused words files known0 known1 taken0 taken1 status (inr (inr (inr is)))
     (λ page plugin old first new sink given ending short s o e t. never-refused never few page plugin old first new sink given short (ends-refused page old first new sink ending (sym is ∙ s) o) e t) runs

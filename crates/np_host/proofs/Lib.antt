@@ -1,8 +1,12 @@
 pub mod Closings
-pub mod EndLines
 pub mod Exchanges
-pub mod FewCommands
 pub mod Follows
 pub mod Pages
 pub mod PlainWords
 pub mod RunWords
+pub mod UnrefusedRuns
+pub mod Growth
+pub mod Cuts
+pub mod ClosingCuts
+pub mod PageCuts
+pub mod FollowsCuts

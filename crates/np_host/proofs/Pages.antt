@@ -8,9 +8,10 @@ use Rattle.np_model.specs.declared.script.Page.{Page}
 use Rattle.np_model.specs.Script.{page_of, page_in}
 use Rattle.np_ports.specs.Peer.{Known, Starts, started}
 use Rattle.np_ports.specs.Files.{Contents}
-use Rattle.np_host.specs.declared.stop.Stop.{Stop}
+use Rattle.np_ending.specs.declared.stop.Stop.{Stop}
 use Rattle.np_host.specs.Host.{RunsPage, IsNoPage, OnlyNoPage}
-use Rattle.np_host.specs.Closing.{SessionOutcome, IsRunStatus}
+use Rattle.np_ending.specs.Status.{IsRunStatus}
+use Rattle.np_host.specs.Closing.{SessionOutcome}
 
 too-long : (bytes : List ℕ) → 1048576 < length bytes → page_of bytes ≡ None
 unfolding page_of

@@ -1,5 +1,5 @@
 -- What the host's entry point does.
-use Rattle.std.specs.Prelude.{◌≡◌, ℕ, List, [], ◌∷◌, ◌++◌, ◌⊎◌, Option, Some, None}
+use Rattle.std.specs.Prelude.{◌≡◌, ℕ, ◌^◌, ◌<◌, List, [], ◌∷◌, ◌++◌, length, ◌⊎◌, Option, Some, None}
 use Rattle.np_model.specs.declared.script.Page.{Page}
 use Rattle.np_model.specs.Script.{page_of}
 use Rattle.np_model.specs.Journal.{end_line}
@@ -7,10 +7,13 @@ use Rattle.np_ports.specs.Peer.{Known, started}
 use Rattle.np_ports.specs.Files.{Contents}
 use Rattle.np_ports.specs.declared.file_call.FileCall.{FileCall}
 use Rattle.np_ports.specs.declared.file_call.FileCall.TheVariants.{Read}
-use Rattle.np_host.specs.declared.ending.Ending.{Ending}
-use Rattle.np_host.specs.Causes.{Adds}
+use Rattle.np_prefix.specs.Alone.{RefusesNothing}
+use Rattle.np_ending.specs.declared.ending.Ending.{Ending}
+use Rattle.np_ending.specs.Causes.{Adds, AddsPart}
 use Rattle.np_host.specs.Words.{RunWords, run_words}
-use Rattle.np_host.specs.Closing.{OutcomeOf, status_of, IsRunStatus}
+use Rattle.np_host.specs.Session.{BeginsWith}
+use Rattle.np_ending.specs.Status.{status_of, IsRunStatus}
+use Rattle.np_host.specs.Closing.{OutcomeOf}
 
 -- Where the files, the peer and the sink tell: the page of the file ran over a peer that was started once, with the words of the program.
 abbrev pub RunsPage : List ℕ → List (List ℕ) → Option Contents → Option Known → Option Known → Option (List ℕ) → Option (List ℕ) → ℕ → Type 0
@@ -19,6 +22,17 @@ RunsPage name program files known0 known1 taken0 taken1 status =
     (page : Page) × (ending : Ending) × (page_of (f name) ≡ Some page) × (status ≡ status_of ending)
     × ((new : Known) × (sink : List ℕ) × (known1 ≡ Some new) × (taken1 ≡ Some sink) × OutcomeOf page (started old program) first new sink ending)
 
+-- the statuses at which nothing was refused
+abbrev pub IsUnrefusedStatus : ℕ → Type 0
+IsUnrefusedStatus status = (status ≡ 0) ⊎ ((status ≡ 5) ⊎ (status ≡ 6))
+
+-- Where the files, the peer and the sink tell: the page of the file refuses nothing of the bytes that the peer gave, and at 5 these were fewer than are ever read.
+abbrev pub RunsUnrefused : List ℕ → Option Contents → Option Known → Option Known → Option (List ℕ) → ℕ → Type 0
+RunsUnrefused name files known0 known1 taken0 status =
+    (f : Contents) (old : Known) (first : List ℕ) → files ≡ Some f → known0 ≡ Some old → taken0 ≡ Some first →
+    (page : Page) × (new : Known) × (got : List ℕ) × (page_of (f name) ≡ Some page) × (known1 ≡ Some new) × (new.given ≡ old.given ++ got)
+    × RefusesNothing page got × (status ≡ 5 → length got < 2 ^ 40)
+
 -- at 2, 3 and 4 the peer was not called, and the end line alone was printed
 abbrev pub StopsEarly : Option Known → Option Known → Option (List ℕ) → Option (List ℕ) → ℕ → Type 0
 StopsEarly known0 known1 taken0 taken1 status = (status ≡ 2) ⊎ ((status ≡ 3) ⊎ (status ≡ 4)) → (known1 ≡ known0) × Adds taken0 taken1 (end_line status)
@@ -26,6 +40,27 @@ StopsEarly known0 known1 taken0 taken1 status = (status ≡ 2) ⊎ ((status ≡ 
 -- at 11 the peer was only asked to start, and the end line alone was printed
 abbrev pub NotStarted : List (List ℕ) → Option Known → Option Known → Option (List ℕ) → Option (List ℕ) → ℕ → Type 0
 NotStarted program known0 known1 taken0 taken1 status = status ≡ 11 → ((old : Known) → known0 ≡ Some old → known1 ≡ Some (started old program)) × Adds taken0 taken1 (end_line 11)
+
+-- The end line of this status was due before the page began: 3 where the file has no page, 4 where the file failed, 11 where the peer failed to start. Only at 11 was the peer called, to start.
+abbrev pub IsDueEarly : Option Page → List (List ℕ) → Type 0 → Type 0 → Known → Known → ℕ → Type 0
+IsDueEarly file program file_failed start_failed old new status =
+    ((status ≡ 3) × (file ≡ None) × (new ≡ old))
+    ⊎ (((status ≡ 4) × file_failed × (new ≡ old)) ⊎ ((status ≡ 11) × start_failed × (new ≡ started old program)))
+
+-- Statuses 8 and 10 before the page began: a part of the end line that was due was printed; or nothing was, and the peer was not called.
+pub record CutEarly (file : Option Page) (program : List (List ℕ)) (file_failed start_failed : Type 0) (old : Known) (first : List ℕ) (new : Known) (sink : List ℕ) : Type 0 where
+  pub status : ℕ
+  pub line : List ℕ
+  pub due : ((line ≡ []) × (new ≡ old)) ⊎ IsDueEarly file program file_failed start_failed old new status
+  pub line_part : BeginsWith (end_line status) line
+  pub printed : sink ≡ first ++ line
+
+-- Where the files, the peer and the sink tell: the run was cut short before its page began, or this holds of the page, over a peer that was started once, with the words of the program.
+abbrev pub RunCut : (Page → Known → List ℕ → Known → List ℕ → Type 0) → List ℕ → List (List ℕ) → Type 0 → Type 0 → Option Contents → Option Known → Option Known → Option (List ℕ) → Option (List ℕ) → Type 0
+RunCut outcome name program file_failed start_failed files known0 known1 taken0 taken1 =
+    (f : Contents) (old : Known) (first : List ℕ) → files ≡ Some f → known0 ≡ Some old → taken0 ≡ Some first →
+    (new : Known) × (sink : List ℕ) × (known1 ≡ Some new) × (taken1 ≡ Some sink)
+    × (CutEarly (page_of (f name)) program file_failed start_failed old first new sink ⊎ ((page : Page) × (page_of (f name) ≡ Some page) × outcome page (started old program) first new sink))
 
 -- where the files tell, the named one isn't in the grammar
 abbrev pub IsNoPage : List ℕ → Option Contents → Type 0
@@ -54,8 +89,15 @@ OfWords (Some r) P Q = P r
 abbrev pub RunsWords : List (List ℕ) → Option Contents → Option Known → Option Known → Option (List ℕ) → Option (List ℕ) → ℕ → Type 0
 RunsWords words files known0 known1 taken0 taken1 status = OfWords (run_words words) (λ r. RunsPage r.page r.program files known0 known1 taken0 taken1 status) (IsRunStatus status → ⊥)
 
+abbrev pub UnrefusedWords : List (List ℕ) → Option Contents → Option Known → Option Known → Option (List ℕ) → ℕ → Type 0
+UnrefusedWords words files known0 known1 taken0 status = OfWords (run_words words) (λ r. RunsUnrefused r.page files known0 known1 taken0 status) ⊥
+
 abbrev pub NotStartedWords : List (List ℕ) → Option Known → Option Known → Option (List ℕ) → Option (List ℕ) → ℕ → Type 0
 NotStartedWords words known0 known1 taken0 taken1 status = OfWords (run_words words) (λ r. NotStarted r.program known0 known1 taken0 taken1 status) (status ≡ 11 → ⊥)
+
+-- with words of another form the peer was not called, and a part of the end line of 2 was printed
+abbrev pub CutWords : (Page → Known → List ℕ → Known → List ℕ → Type 0) → List (List ℕ) → Type 0 → Type 0 → Option Contents → Option Known → Option Known → Option (List ℕ) → Option (List ℕ) → Type 0
+CutWords outcome words file_failed start_failed files known0 known1 taken0 taken1 = OfWords (run_words words) (λ r. RunCut outcome r.page r.program file_failed start_failed files known0 known1 taken0 taken1) ((known1 ≡ known0) × AddsPart taken0 taken1 (end_line 2))
 
 abbrev pub IsNoScript : List (List ℕ) → Option Contents → Type 0
 IsNoScript words files = OfWords (run_words words) (λ r. IsNoPage r.page files) ⊥

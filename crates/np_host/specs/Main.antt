@@ -7,7 +7,7 @@ use Rattle.np_model.specs.Script.{page_of}
 use Rattle.np_model.specs.Encoding.{encodings}
 use Rattle.np_model.specs.Side.{SideState}
 use Rattle.np_model.specs.PagePlan.{PageControl}
-use Rattle.np_model.specs.PluginPlan.{Plugin}
+use Rattle.np_model.specs.declared.script.Plugin.{Plugin}
 use Rattle.np_model.specs.HostRun.{HostRests, GoesOnLost, IsAwaiting, IsPluginText}
 use Rattle.np_model.specs.Journal.{end_line}
 use Rattle.np_ports.specs.Peer.{Known, started}
@@ -72,13 +72,36 @@ pub record HostBroken (page : Page) (plugin : Plugin) (old : Known) (first : Lis
 abbrev pub HostRefused : Page → Plugin → Known → List ℕ → Known → List ℕ → List ℕ → Type 0
 HostRefused page plugin old first new sink given = ⊥
 
--- Where the files, the peer and the sink tell, for each plug-in whose wire text in the run of both begins with the bytes that the peer gave.
+-- Statuses 8 and 10 in the midst of the exchange: the sink took a part of the lines of the run of page and plug-in that the whole messages given reach, and the peer a part of the page's messages.
+pub record HostInterrupted (page : Page) (plugin : Plugin) (old : Known) (first : List ℕ) (new : Known) (sink given : List ℕ) : Type 0 where
+  pub n : ℕ
+  pub side : SideState PageControl
+  pub lines : List ℕ
+  pub taken : List ℕ
+  pub whole : IsWhole given n
+  pub rests : HostRests page plugin n side
+  pub lines_part : BeginsWith side.journal lines
+  pub printed : sink ≡ first ++ lines
+  pub taken_part : BeginsWith (encodings side.sent) taken
+  pub exchange : FollowsExchange page plugin old new given taken
+
+-- Statuses 8 and 10: so, or the sink took a part of the lines that it takes at 0, 5 or 6.
+abbrev pub HostCut : Page → Plugin → Known → List ℕ → Known → List ℕ → List ℕ → Type 0
+HostCut page plugin old first new sink given =
+    HostInterrupted page plugin old first new sink given
+    ⊎ ((whole : List ℕ) × BeginsWith whole sink × BeginsWith sink first
+    × (HostDone page plugin old first new whole given ⊎ (HostLost page plugin old first new whole given ⊎ HostBroken page plugin old first new whole given)))
+
+-- this holds for each plug-in whose wire text in the run of both begins with the bytes that the peer gave
+abbrev pub ForEachPlugin : (Page → Plugin → Known → List ℕ → Known → List ℕ → List ℕ → Type 0) → Page → Known → List ℕ → Known → List ℕ → Type 0
+ForEachPlugin outcome page old first new sink = (plugin : Plugin) (given : List ℕ) → new.given ≡ old.given ++ given → IsPluginText page plugin given → outcome page plugin old first new sink given
+
+-- Where the files, the peer and the sink tell, this holds of the page of the file for each such plug-in.
 abbrev pub FollowsPage : (Page → Plugin → Known → List ℕ → Known → List ℕ → List ℕ → Type 0) → List ℕ → List (List ℕ) → Option Contents → Option Known → Option Known → Option (List ℕ) → Option (List ℕ) → Type 0
 FollowsPage outcome name program files known0 known1 taken0 taken1 =
     (f : Contents) (old : Known) (first : List ℕ) → files ≡ Some f → known0 ≡ Some old → taken0 ≡ Some first →
     (page : Page) × (page_of (f name) ≡ Some page)
-    × ((new : Known) × (sink : List ℕ) × (known1 ≡ Some new) × (taken1 ≡ Some sink)
-    × ((plugin : Plugin) (given : List ℕ) → new.given ≡ (started old program).given ++ given → IsPluginText page plugin given → outcome page plugin (started old program) first new sink given))
+    × ((new : Known) × (sink : List ℕ) × (known1 ≡ Some new) × (taken1 ≡ Some sink) × ForEachPlugin outcome page (started old program) first new sink)
 
 abbrev pub FollowsWords : (Page → Plugin → Known → List ℕ → Known → List ℕ → List ℕ → Type 0) → List (List ℕ) → Option Contents → Option Known → Option Known → Option (List ℕ) → Option (List ℕ) → Type 0
 FollowsWords outcome words files known0 known1 taken0 taken1 = OfWords (run_words words) (λ r. FollowsPage outcome r.page r.program files known0 known1 taken0 taken1) ⊥

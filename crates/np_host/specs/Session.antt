@@ -1,5 +1,5 @@
 -- A page over a peer and a sink that tell their calls: what a whole session of one side alone did.
-use Rattle.std.specs.Prelude.{◌≡◌, ℕ, ◌-◌, ◌≤◌, List, ◌++◌, ◌⊎◌, length, take, Option, Some}
+use Rattle.std.specs.Prelude.{◌≡◌, ℕ, ◌-◌, ◌^◌, ◌<◌, ◌≤◌, List, ◌++◌, ◌⊎◌, length, take, Option, Some}
 use Rattle.std.specs.List.{AllByRecursion}
 use Rattle.np_model.specs.declared.script.Page.{Page}
 use Rattle.np_model.specs.declared.refusal.Refusal.{Refusal}
@@ -9,7 +9,7 @@ use Rattle.np_model.specs.PagePlan.{PageControl}
 use Rattle.np_model.specs.HostRun.{GoesOnLost}
 use Rattle.np_model.specs.Journal.{end_line, refused_line}
 use Rattle.np_ports.specs.Peer.{Known}
-use Rattle.np_prefix.specs.Alone.{WaitsAt, EndsAt, RefusesAt}
+use Rattle.np_prefix.specs.Alone.{ComesTo, WaitsAt, EndsAt, RefusesAt}
 
 -- At this read of a session in which the page got and sent these bytes in all, the page waited for a message that wasn't whole, and the peer had taken all its messages so far.
 pub record ReadsWell (page : Page) (old : Known) (got sent : List ℕ) (r : ℕ × ℕ) : Type 0 where
@@ -43,7 +43,7 @@ pub record Completed (page : Page) (old : Known) (first : List ℕ) (new : Known
   pub sent_is : sent ≡ encodings side.sent
   pub printed : sink ≡ first ++ (side.journal ++ end_line 0)
 
--- Status 5: the peer ended while the page waited, and the page went on alone to `last`.
+-- Status 5: the peer ended while the page waited and another read was due, and the page went on alone to `last`.
 pub record PeerEnded (page : Page) (old : Known) (first : List ℕ) (new : Known) (sink : List ℕ) : Type 0 where
   pub got : List ℕ
   pub sent : List ℕ
@@ -51,6 +51,7 @@ pub record PeerEnded (page : Page) (old : Known) (first : List ℕ) (new : Known
   pub last : SideState PageControl
   pub exchanged : Exchanged page old new got sent
   pub waits : WaitsAt page got side
+  pub below_limit : length got < 2 ^ 40
   pub lost : GoesOnLost page side last
   pub sent_is : sent ≡ encodings side.sent
   pub printed : sink ≡ first ++ (last.journal ++ end_line 5)
@@ -78,6 +79,18 @@ pub record PeerRefused (page : Page) (old : Known) (first : List ℕ) (new : Kno
   pub lost : GoesOnLost page side last
   pub sent_part : BeginsWith (encodings side.sent) sent
   pub printed : sink ≡ first ++ (last.journal ++ refused_line refusal)
+
+-- Statuses 8 and 10 in the midst of the exchange: the page came to `side`; by then the peer took a part of its messages, and the sink a part of its journal.
+pub record Interrupted (page : Page) (old : Known) (first : List ℕ) (new : Known) (sink : List ℕ) : Type 0 where
+  pub got : List ℕ
+  pub sent : List ℕ
+  pub side : SideState PageControl
+  pub lines : List ℕ
+  pub exchanged : Exchanged page old new got sent
+  pub comes_to : ComesTo page got side
+  pub sent_part : BeginsWith (encodings side.sent) sent
+  pub lines_part : BeginsWith side.journal lines
+  pub printed : sink ≡ first ++ lines
 
 -- an outcome of a session whose peer and sink tell their calls
 abbrev pub Outcome : Type 1

@@ -3,23 +3,15 @@
 ghost use Rattle.std.specs.Prelude.{◌≡◌, ◌++◌, ◌+◌, ◌≤◌, ◌<◌, ◌^◌, [], List, ℕ, length, OnOk, OnErr, IfOk};
 ghost use Rattle.np_ports.specs.Causes.{HasCause};
 ghost use Rattle.np_host_end.specs.HostEnd.{total_of};
-ghost use Rattle.np_host.specs.Causes.{SinkCause, Adds, AddsPart};
-ghost use Rattle.np_host.specs.Flow.{Printed, Sent, Hears, TookPart, ReadCut, PeerCause, ReadCause, EndedBy, AtMost};
+ghost use Rattle.np_ending.specs.Causes.{SinkCause, Adds, AddsPart};
+ghost use Rattle.np_ending.specs.PeerCauses.{TookPart, ReadCut, PeerCause, ReadCause, EndedBy, AtMost};
+ghost use Rattle.np_host.specs.Flow.{Printed, Sent, Hears};
 
-use crate::stop::Stop;
+use np_ending::{Heard, Stop};
 use np_host_end::HostEnd;
 use np_ports::{Peer, PortError, Sink};
 use np_transfer::{print_all, send_all};
 use np_values::NoMemory;
-
-/// What a read of the peer brought.
-#[derive(Clone, Copy, Debug, PartialEq, Eq)]
-pub enum Heard {
-    /// So many bytes, which the end was given.
-    Bytes(usize),
-    Ended,
-    Failed,
-}
 
 /// Prints the end's journal, and cuts it off.
 pub fn print_journal<O: Sink>(end: &mut HostEnd, out: &mut O) -> Result<(), Stop>

@@ -1,20 +1,23 @@
 //! The entry point of the host, over any environment.
 
-ghost use Rattle.std.specs.Prelude.{◌≡◌, ◌<◌, ◌⊎◌, ◌↔◌, ◌≢◌, length, map, string_bytes, IfOk, OnOk, Some, None, true};
+ghost use Rattle.std.specs.Prelude.{◌≡◌, ◌<◌, ◌⊎◌, ◌↔◌, ◌≢◌, length, map, string_bytes, IfOk, OnOk, OnErr, Some, None, true};
 ghost use Rattle.np_model.specs.Script.{page_of};
 ghost use Rattle.np_ports.specs.Causes.{Rose};
 ghost use Rattle.np_host.specs.Words.{run_words as run_of_words, texts};
-ghost use Rattle.np_host.specs.Host.{RunsPage, StopsEarly, NotStarted, IsNoPage, OnlyNoPage, KeepsFiles, NotesPageOnly, RunsWords, NotStartedWords, IsNoScript, OnlyNoScript, NotesScriptOnly, IsCutShort, IsEndStatus};
-ghost use Rattle.np_host.specs.Causes.{SinkCause};
-ghost use Rattle.np_host.specs.Main.{FollowsWords, HostDone, HostLost, HostBroken, HostRefused};
+ghost use Rattle.np_host.specs.Closing.{CutShort};
+ghost use Rattle.np_host.specs.Host.{RunsPage, RunCut, CutWords, StopsEarly, NotStarted, IsNoPage, OnlyNoPage, KeepsFiles, NotesPageOnly, RunsWords, UnrefusedWords, NotStartedWords, IsNoScript, OnlyNoScript, NotesScriptOnly, IsCutShort, IsEndStatus, IsUnrefusedStatus};
+ghost use Rattle.np_ending.specs.Causes.{SinkCause};
+ghost use Rattle.np_host.specs.Main.{FollowsWords, ForEachPlugin, HostDone, HostLost, HostBroken, HostRefused, HostCut};
 
-use crate::lines::finish;
 use crate::session::session;
-use crate::stop::Stop;
 use crate::words::run_words;
+use np_ending::{Stop, finish};
 use np_ports::{Files, Peer, PortError, Sink};
-use np_prefix::{ends_law, few_bytes_law, never_refuses_law, waits_law};
-use np_script::{ParseError, parse_page};
+use np_prefix::{
+    begins_law, comes_to_rest_law, ends_law, few_bytes_law, never_refuses_law, rests_unrefused_law,
+    waits_law,
+};
+use np_script::{ParseError, pages_are_well_formed, parse_page};
 use np_transfer::read_script;
 use std::alloc::Global;
 
@@ -29,6 +32,7 @@ fn run<P: Peer, F: Files, O: Sink>(
 ) -> Result<u8, Stop>
     requires program { 0 < length program.now }
     ensures runs { IfOk result (λ status. RunsPage name.now (texts program.now) (F.contents files.old) (P.known peer.old) (P.known peer.new) (O.taken out.old) (O.taken out.new) status) }
+    ensures cut { OnErr result (RunCut (CutShort (Rose (P.pipe_faults peer.old) (P.pipe_faults peer.new)) (P.has_ended peer.new ≡ true)) name.now (texts program.now) (Rose (F.faults files.old) (F.faults files.new)) (Rose (P.start_faults peer.old) (P.start_faults peer.new)) (F.contents files.old) (P.known peer.old) (P.known peer.new) (O.taken out.old) (O.taken out.new)) }
     ensures early { IfOk result (λ status. StopsEarly (P.known peer.old) (P.known peer.new) (O.taken out.old) (O.taken out.new) status) }
     ensures not_started { IfOk result (λ status. NotStarted (texts program.now) (P.known peer.old) (P.known peer.new) (O.taken out.old) (O.taken out.new) status) }
     ensures script { IfOk result (λ status. status ≡ 3 → IsNoPage name.now (F.contents files.old)) }
@@ -71,6 +75,7 @@ fn serve<P: Peer, F: Files, O: Sink>(
     out: &mut O,
 ) -> Result<u8, Stop>
     ensures runs { IfOk result (λ status. RunsWords (texts words.now) (F.contents files.old) (P.known peer.old) (P.known peer.new) (O.taken out.old) (O.taken out.new) status) }
+    ensures cut { OnErr result (CutWords (CutShort (Rose (P.pipe_faults peer.old) (P.pipe_faults peer.new)) (P.has_ended peer.new ≡ true)) (texts words.now) (Rose (F.faults files.old) (F.faults files.new)) (Rose (P.start_faults peer.old) (P.start_faults peer.new)) (F.contents files.old) (P.known peer.old) (P.known peer.new) (O.taken out.old) (O.taken out.new)) }
     ensures early { IfOk result (λ status. StopsEarly (P.known peer.old) (P.known peer.new) (O.taken out.old) (O.taken out.new) status) }
     ensures not_started { IfOk result (λ status. NotStartedWords (texts words.now) (P.known peer.old) (P.known peer.new) (O.taken out.old) (O.taken out.new) status) }
     ensures script { IfOk result (λ status. status ≡ 3 → IsNoScript (texts words.now) (F.contents files.old)) }
@@ -108,11 +113,19 @@ pub fn host_main<P: Peer, F: Files, O: Sink>(
     // What a run did, where its environment tells: status 0, 5, 6 or 7.
     ensures runs { RunsWords (texts words.now) (F.contents files.old) (P.known peer.old) (P.known peer.new) (O.taken out.old) (O.taken out.new) result }
 
+    // At 0, 5 and 6 the page refuses nothing of what the peer gave, whatever bytes these are. So where it
+    // refuses something, a run that isn't cut short ends with 7.
+    ensures unrefused { IsUnrefusedStatus result → UnrefusedWords (texts words.now) (F.contents files.old) (P.known peer.old) (P.known peer.new) (O.taken out.old) result }
+
+    // At 8 and 10: what the sink and the peer took by then.
+    ensures cut { IsCutShort result → CutWords (CutShort (Rose (P.pipe_faults peer.old) (P.pipe_faults peer.new)) (P.has_ended peer.new ≡ true)) (texts words.now) (Rose (F.faults files.old) (F.faults files.new)) (Rose (P.start_faults peer.old) (P.start_faults peer.new)) (F.contents files.old) (P.known peer.old) (P.known peer.new) (O.taken out.old) (O.taken out.new) }
+
     // The main theorem: for each plug-in whose wire text the given bytes begin, the run of page and
     // plug-in in one process that only the whole messages of these bytes reach.
     ensures follows_done { result ≡ 0 → FollowsWords HostDone (texts words.now) (F.contents files.old) (P.known peer.old) (P.known peer.new) (O.taken out.old) (O.taken out.new) }
     ensures follows_lost { result ≡ 5 → FollowsWords HostLost (texts words.now) (F.contents files.old) (P.known peer.old) (P.known peer.new) (O.taken out.old) (O.taken out.new) }
     ensures follows_broken { result ≡ 6 → FollowsWords HostBroken (texts words.now) (F.contents files.old) (P.known peer.old) (P.known peer.new) (O.taken out.old) (O.taken out.new) }
+    ensures follows_cut { IsCutShort result → CutWords (ForEachPlugin HostCut) (texts words.now) (Rose (F.faults files.old) (F.faults files.new)) (Rose (P.start_faults peer.old) (P.start_faults peer.new)) (F.contents files.old) (P.known peer.old) (P.known peer.new) (O.taken out.old) (O.taken out.new) }
     ensures never_refused { result ≡ 7 → FollowsWords HostRefused (texts words.now) (F.contents files.old) (P.known peer.old) (P.known peer.new) (O.taken out.old) (O.taken out.new) }
 
     // What comes before a page runs.
@@ -137,8 +150,12 @@ pub fn host_main<P: Peer, F: Files, O: Sink>(
 {
     waits_law();
     ends_law();
+    begins_law();
+    comes_to_rest_law();
     never_refuses_law();
     few_bytes_law();
+    pages_are_well_formed();
+    rests_unrefused_law();
     match serve(alloc, words, peer, files, out) {
         Ok(status) => status,
         Err(Stop::OutputFailed) => 10,

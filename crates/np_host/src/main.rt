@@ -1,12 +1,9 @@
 //! The host program: runs a page over a plug-in program that it starts.
 #![tactic(auto)]
 
-mod ending;
 mod flow;
 mod host;
-mod lines;
 mod session;
-mod stop;
 mod turn;
 mod words;
 

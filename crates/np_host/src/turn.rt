@@ -2,13 +2,14 @@
 
 ghost use Rattle.std.specs.Prelude.{◌≡◌, ◌+◌, ◌≤◌, ◌<◌, ◌^◌, length, OnOk, OnErr, IfOk};
 ghost use Rattle.np_host_end.specs.HostEnd.{total_of, RestsAs};
-ghost use Rattle.np_host.specs.Causes.{SinkCause};
-ghost use Rattle.np_host.specs.Live.{Ran, RanCut, Turned, HeardOn, GoesOnOnly, IsMemoryOnly, EndingCause, EndedOnly};
+ghost use Rattle.np_ending.specs.Causes.{SinkCause};
+ghost use Rattle.np_ending.specs.PeerCauses.{ReadCut};
+ghost use Rattle.np_ending.specs.PeerCauses.{GoesOnOnly, IsMemoryOnly, EndingCause, EndedOnly};
+ghost use Rattle.np_host.specs.Live.{Ran, RanCut, Turned, HeardOn, TurnCut};
 ghost use Rattle.np_host_end.specs.declared.host_end.State.TheVariants.{Waiting};
 
-use crate::ending::Ending;
-use crate::flow::{Heard, listen, print_journal, send_messages};
-use crate::stop::Stop;
+use crate::flow::{listen, print_journal, send_messages};
+use np_ending::{Ending, Heard, Stop};
 use np_host_end::{HostEnd, Refusal, Rule, State};
 use np_ports::{Peer, Sink};
 
@@ -48,6 +49,7 @@ pub fn turn<P: Peer, O: Sink>(
     requires total { total_of end.old ≡ total.old }
     requires limit { total.old ≤ 2 ^ 40 }
     ensures turned { IfOk result (λ ending. Turned (P.known peer.old) (P.known peer.new) (O.taken out.old) (O.taken out.new) end.old end.new ending) }
+    ensures cut { OnErr result (TurnCut (P.known peer.old) (P.known peer.new) (O.taken out.old) (O.taken out.new) end.old) }
     ensures total { OnOk result (total_of end.new ≡ total.new) }
     ensures limit { OnOk result (total.new ≤ 2 ^ 40) }
     ensures more { IfOk result (λ ending. GoesOnOnly ending (total.old < total.new)) }
@@ -85,6 +87,7 @@ fn hear<P: Peer>(
     requires total { total_of end.old ≡ total.old }
     requires limit { total.old < 2 ^ 40 }
     ensures heard { IfOk result (λ ending. HeardOn (P.known peer.old) (P.known peer.new) end.old end.new ending) }
+    ensures cut { OnErr result (ReadCut (P.known peer.old) (P.known peer.new)) }
     ensures total { OnOk result (total_of end.new ≡ total.new) }
     ensures limit { OnOk result (total.new ≤ 2 ^ 40) }
     ensures more { IfOk result (λ ending. GoesOnOnly ending (total.old < total.new)) }

@@ -1,7 +1,9 @@
 use Rattle.std.proofs.Common.{Option, Some, None, subst, ◌∙◌, arith}
-use Rattle.np_host.specs.declared.ending.Ending.{Ending}
+use Rattle.np_ending.specs.declared.ending.Ending.{Ending}
 use Rattle.np_host.specs.Live.{Turned}
 use Rattle.np_host.proofs.Closings.{turned-then}
+use Rattle.np_host.proofs.Cuts.{turned-cut}
+use Rattle.np_host.proofs.ClosingCuts.{on-stop}
 use Rattle.np_host.proofs.session.talk.Goals as goal
 
 pub returns-in-Some-clause-talked : goal.returns-in-Some-clause-talked
@@ -19,3 +21,6 @@ loop-next-preserved g c = record {
   start = c.in_ok-next.ensures.start_faults ∙ c.loop-next.invariant.start;
   sink = omega (arith, c.loop-next.invariant.sink, c.in_ok-next.ensures.sink.later);
 }
+
+pub returns-in_err-next-clause-cut : goal.returns-in_err-next-clause-cut
+returns-in_err-next-clause-cut g c = on-stop c.from_residual.result _ (turned-cut _ (g.P.Peer.known c.loop-next.peer) _ _ (g.O.Sink.taken c.loop-next.out) _ c.args.end.now c.loop-next.end c.loop-next.invariant.turned c.in_err-next.ensures.cut)

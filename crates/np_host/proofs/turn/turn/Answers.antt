@@ -1,6 +1,8 @@
-use Rattle.std.proofs.Common.{◌≡◌, ◌∙◌, ◌^◌}
+use Rattle.std.proofs.Common.{rules, ◌≡◌, ◌<◌, ◌∙◌, ◌^◌, arith}
 use Rattle.np_host_end.specs.HostEnd.{total_of}
 use Rattle.np_host.proofs.Exchanges.{going-ran, ending-refused, turned-done, turned-unsent, turned-failed, listening, turned-full, turned-heard}
+use Rattle.np_host.proofs.Cuts.{run-cut, send-cut, read-cut}
+use Rattle.np_host.proofs.ClosingCuts.{on-stop}
 use Rattle.np_host.proofs.turn.turn.Goals as goal
 
 pub returns-in-Refused-clause-turned : goal.returns-in-Refused-clause-turned
@@ -28,5 +30,38 @@ returns-then-total-eq-BYTE_LIMIT-clause-turned g c = λ page old now first sink 
 
 pub returns-clause-turned : goal.returns-clause-turned
 returns-clause-turned g c = λ page old now first sink k o going.
-    turned-heard _ _ _ c.send_messages.new.end c.hear.new.end c.in_ok-ending.ending c.in_ok-ending.ensures.heard page old first
+    let same = c.in_ok-sent.ensures.total ∙ c.in_ok-state.ensures.total ∙ c.requires.total in
+    let below : total_of c.send_messages.new.end < 2 ^ 40 = omega (arith, same, c.requires.limit, c.if-total-eq-BYTE_LIMIT.false) in
+    turned-heard _ _ _ c.send_messages.new.end c.hear.new.end c.in_ok-ending.ending below c.in_ok-ending.ensures.heard page old first
     (listening _ _ _ _ c.args.end.now c.send_messages.new.end c.in_ok-state.state c.in_ok-sent.sent (record { between = c.run_and_print.new.end; ran = c.in_ok-state.ensures.ran; sends = c.in_ok-sent.ensures.sent }) c.in_default.not-Refused c.in_default-state.not-Finished c.if-not-sent.false page old now first sink k o going)
+
+pub returns-in_err-state-clause-cut : goal.returns-in_err-state-clause-cut
+returns-in_err-state-clause-cut g c = on-stop c.from_residual.result _ (run-cut _ _ _ c.args.end.now c.in_err-state.ensures.cut)
+
+pub returns-in_err-sent : goal.returns-in_err-sent
+returns-in_err-sent g c = record {
+  turned = search rules;
+  cut = on-stop c.from_residual-in_err-sent.result _ (send-cut _ _ _ _ c.args.end.now c.run_and_print.new.end c.in_ok-state.state c.in_ok-state.ensures.ran c.in_err-sent.ensures.part);
+  total = search rules;
+  limit = search rules;
+  more = search rules;
+  peer = search rules;
+  ended = search rules;
+  start_faults = search rules;
+  sink = search rules;
+}
+
+pub returns-in_err-ending : goal.returns-in_err-ending
+returns-in_err-ending g c = record {
+  turned = search rules;
+  cut = on-stop c.from_residual-in_err-ending.result _ (λ page old now first sink k o going.
+      read-cut _ _ _ c.send_messages.new.end page old first c.in_err-ending.ensures.cut
+      (listening _ _ _ _ c.args.end.now c.send_messages.new.end c.in_ok-state.state c.in_ok-sent.sent (record { between = c.run_and_print.new.end; ran = c.in_ok-state.ensures.ran; sends = c.in_ok-sent.ensures.sent }) c.in_default.not-Refused c.in_default-state.not-Finished c.if-not-sent.false page old now first sink k o going));
+  total = search rules;
+  limit = search rules;
+  more = search rules;
+  peer = search rules;
+  ended = search rules;
+  start_faults = search rules;
+  sink = search rules;
+}
