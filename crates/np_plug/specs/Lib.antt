@@ -1,0 +1,10 @@
+pub mod Session
+pub mod Flow
+pub mod Live
+pub mod Closing
+pub mod Plug
+pub mod Main
+pub use Rattle.np_prefix.specs.PluginAlone
+pub use Rattle.np_ending.specs.Causes
+pub use Rattle.np_ending.specs.PeerCauses
+pub use Rattle.np_ending.specs.Status

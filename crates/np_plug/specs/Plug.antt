@@ -1,0 +1,126 @@
+-- What the plug-in program's entry point does.
+use Rattle.std.specs.Prelude.{◌≡◌, ℕ, ◌^◌, ◌<◌, List, [], ◌∷◌, ◌++◌, ◌⊎◌, length, map, String, string_bytes, Option, Some, None}
+use Rattle.std.specs.Global.{Global}
+use Rattle.np_model.specs.declared.script.Plugin.{Plugin}
+use Rattle.np_model.specs.PluginScript.{plugin_of}
+use Rattle.np_model.specs.Journal.{end_line}
+use Rattle.np_ports.specs.Peer.{Known}
+use Rattle.np_ports.specs.Files.{Contents}
+use Rattle.np_ports.specs.declared.file_call.FileCall.{FileCall}
+use Rattle.np_ports.specs.declared.file_call.FileCall.TheVariants.{Read}
+use Rattle.np_prefix.specs.PluginAlone.{PluginRefusesNothing}
+use Rattle.np_ending.specs.declared.ending.Ending.{Ending}
+use Rattle.np_ending.specs.Causes.{Adds}
+use Rattle.np_ending.specs.Status.{status_of, IsRunStatus}
+use Rattle.np_plug.specs.Session.{BeginsWith}
+use Rattle.np_plug.specs.Closing.{OutcomeOf}
+
+abbrev pub texts : List (String Global) → List (List ℕ)
+texts words = map (λ w. string_bytes w) words
+
+-- the name of the script's file, where the words are `SCRIPT NOTES`
+abbrev pub script_word : List (List ℕ) → Option (List ℕ)
+script_word [] = None
+script_word (script ∷ []) = None
+script_word (script ∷ notes ∷ []) = Some script
+script_word (script ∷ notes ∷ word ∷ words) = None
+
+-- Where the files, the peer and the sink tell: the plug-in of the file ran over the peer.
+abbrev pub RunsPlugin : List ℕ → Option Contents → Option Known → Option Known → Option (List ℕ) → Option (List ℕ) → ℕ → Type 0
+RunsPlugin name files known0 known1 taken0 taken1 status =
+    IsRunStatus status → (f : Contents) (old : Known) (first : List ℕ) → files ≡ Some f → known0 ≡ Some old → taken0 ≡ Some first →
+    (plugin : Plugin) × (ending : Ending) × (plugin_of (f name) ≡ Some plugin) × (status ≡ status_of ending)
+    × ((new : Known) × (sink : List ℕ) × (known1 ≡ Some new) × (taken1 ≡ Some sink) × OutcomeOf plugin old first new sink ending)
+
+-- the statuses at which nothing was refused
+abbrev pub IsUnrefusedStatus : ℕ → Type 0
+IsUnrefusedStatus status = (status ≡ 0) ⊎ ((status ≡ 5) ⊎ (status ≡ 6))
+
+-- Where the files, the peer and the sink tell: the plug-in of the file refuses nothing of the bytes that the peer gave, and at 5 these were fewer than are ever read.
+abbrev pub RunsUnrefused : List ℕ → Option Contents → Option Known → Option Known → Option (List ℕ) → ℕ → Type 0
+RunsUnrefused name files known0 known1 taken0 status =
+    (f : Contents) (old : Known) (first : List ℕ) → files ≡ Some f → known0 ≡ Some old → taken0 ≡ Some first →
+    (plugin : Plugin) × (new : Known) × (got : List ℕ) × (plugin_of (f name) ≡ Some plugin) × (known1 ≡ Some new) × (new.given ≡ old.given ++ got)
+    × PluginRefusesNothing plugin got × (status ≡ 5 → length got < 2 ^ 40)
+
+-- at 3 and 4 the peer was not called, and the end line alone was printed
+abbrev pub StopsEarly : Option Known → Option Known → Option (List ℕ) → Option (List ℕ) → ℕ → Type 0
+StopsEarly known0 known1 taken0 taken1 status = (status ≡ 3) ⊎ (status ≡ 4) → (known1 ≡ known0) × Adds taken0 taken1 (end_line status)
+
+-- The end line of this status was due before the plug-in began: 3 where the file has none, 4 where the file failed.
+abbrev pub IsDueEarly : Option Plugin → Type 0 → ℕ → Type 0
+IsDueEarly file file_failed status = ((status ≡ 3) × (file ≡ None)) ⊎ ((status ≡ 4) × file_failed)
+
+-- Statuses 8 and 10 before the plug-in began: a part of the end line that was due was printed, or nothing was; the peer was not called.
+pub record CutEarly (file : Option Plugin) (file_failed : Type 0) (old : Known) (first : List ℕ) (new : Known) (sink : List ℕ) : Type 0 where
+  pub status : ℕ
+  pub line : List ℕ
+  pub due : (line ≡ []) ⊎ IsDueEarly file file_failed status
+  pub uncalled : new ≡ old
+  pub line_part : BeginsWith (end_line status) line
+  pub printed : sink ≡ first ++ line
+
+-- Where the files, the peer and the sink tell: the run was cut short before its plug-in began, or this holds of the plug-in.
+abbrev pub RunCut : (Plugin → Known → List ℕ → Known → List ℕ → Type 0) → List ℕ → Type 0 → Option Contents → Option Known → Option Known → Option (List ℕ) → Option (List ℕ) → Type 0
+RunCut outcome name file_failed files known0 known1 taken0 taken1 =
+    (f : Contents) (old : Known) (first : List ℕ) → files ≡ Some f → known0 ≡ Some old → taken0 ≡ Some first →
+    (new : Known) × (sink : List ℕ) × (known1 ≡ Some new) × (taken1 ≡ Some sink)
+    × (CutEarly (plugin_of (f name)) file_failed old first new sink ⊎ ((plugin : Plugin) × (plugin_of (f name) ≡ Some plugin) × outcome plugin old first new sink))
+
+-- where the files tell, the named one isn't in the grammar
+abbrev pub IsNoPlugin : List ℕ → Option Contents → Type 0
+IsNoPlugin name files = (f : Contents) → files ≡ Some f → plugin_of (f name) ≡ None
+
+-- a file that isn't in the grammar gives 3, unless it can't be read
+abbrev pub OnlyNoPlugin : List ℕ → Option Contents → ℕ → Type 0
+OnlyNoPlugin name files status = (f : Contents) → files ≡ Some f → plugin_of (f name) ≡ None → (status ≡ 3) ⊎ (status ≡ 4)
+
+-- the files stay as they were
+abbrev pub KeepsFiles : Option Contents → Option Contents → Type 0
+KeepsFiles old new = (f : Contents) → old ≡ Some f → new ≡ Some f
+
+-- at most one call of the files failed, a read of the named one
+abbrev pub NotesScriptOnly : List ℕ → Option (List (List ℕ × FileCall)) → Option (List (List ℕ × FileCall)) → Type 0
+NotesScriptOnly name old new = (l : List (List ℕ × FileCall)) → old ≡ Some l → (new ≡ Some l) ⊎ (new ≡ Some (l ++ (name, Read) ∷ []))
+
+-- nothing was called, and nothing was printed
+pub record IsIdle (files0 files1 : Option Contents) (calls0 calls1 : Option (List (List ℕ × FileCall))) (known0 known1 : Option Known) (taken0 taken1 : Option (List ℕ)) : Type 0 where
+  pub files : files1 ≡ files0
+  pub calls : calls1 ≡ calls0
+  pub known : known1 ≡ known0
+  pub taken : taken1 ≡ taken0
+
+-- ---- the same, of the words of the command line
+
+-- this holds of the word that names the script
+abbrev pub OfScript : Option (List ℕ) → (List ℕ → Type 0) → Type 0 → Type 0
+OfScript None P Q = Q
+OfScript (Some name) P Q = P name
+
+-- the plug-in of the script ran; a run status comes with such words alone
+abbrev pub RunsWords : List (List ℕ) → Option Contents → Option Known → Option Known → Option (List ℕ) → Option (List ℕ) → ℕ → Type 0
+RunsWords words files known0 known1 taken0 taken1 status = OfScript (script_word words) (λ name. RunsPlugin name files known0 known1 taken0 taken1 status) (IsRunStatus status → ⊥)
+
+abbrev pub UnrefusedWords : List (List ℕ) → Option Contents → Option Known → Option Known → Option (List ℕ) → ℕ → Type 0
+UnrefusedWords words files known0 known1 taken0 status = OfScript (script_word words) (λ name. RunsUnrefused name files known0 known1 taken0 status) ⊥
+
+-- the run of the script was cut short; that comes with such words alone
+abbrev pub CutWords : (Plugin → Known → List ℕ → Known → List ℕ → Type 0) → List (List ℕ) → Type 0 → Option Contents → Option Known → Option Known → Option (List ℕ) → Option (List ℕ) → Type 0
+CutWords outcome words file_failed files known0 known1 taken0 taken1 = OfScript (script_word words) (λ name. RunCut outcome name file_failed files known0 known1 taken0 taken1) ⊥
+
+abbrev pub IsNoScript : List (List ℕ) → Option Contents → Type 0
+IsNoScript words files = OfScript (script_word words) (λ name. IsNoPlugin name files) ⊥
+
+abbrev pub OnlyNoScript : List (List ℕ) → Option Contents → ℕ → Type 0
+OnlyNoScript words files status = OfScript (script_word words) (λ name. OnlyNoPlugin name files status) (Unit {0})
+
+abbrev pub NotesWordsOnly : List (List ℕ) → Option (List (List ℕ × FileCall)) → Option (List (List ℕ × FileCall)) → Type 0
+NotesWordsOnly words old new = OfScript (script_word words) (λ name. NotesScriptOnly name old new) ((l : List (List ℕ × FileCall)) → old ≡ Some l → new ≡ Some l)
+
+-- want of memory, or the output failed
+abbrev pub IsCutShort : ℕ → Type 0
+IsCutShort status = (status ≡ 8) ⊎ (status ≡ 10)
+
+-- the other statuses
+abbrev pub IsEndStatus : ℕ → Type 0
+IsEndStatus status = IsRunStatus status ⊎ ((status ≡ 2) ⊎ ((status ≡ 3) ⊎ (status ≡ 4)))
