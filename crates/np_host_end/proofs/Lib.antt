@@ -3,5 +3,4 @@ pub mod CoreRuns
 pub mod LostEnds
 pub mod Measures
 pub mod PageTurns
-pub mod StepLemmas
 pub mod Stands

@@ -19,7 +19,7 @@ use Rattle.np_model.specs.PagePlan.{PageControl, page_plans, go_plan, next_plan,
 use Rattle.np_model.specs.HostRun.{IsAwaiting}
 use Rattle.np_model.specs.Steps.{control_after}
 use Rattle.np_host_end.specs.Core.{IsActing}
-use Rattle.np_host_end.proofs.StepLemmas.{run-control}
+use Rattle.np_model.proofs.StepLemmas.{run-control}
 
 acts-at : (s : Stage) → IsActing s → pace_at s ≡ Acts
 acts-at Begin a = refl

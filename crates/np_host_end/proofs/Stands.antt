@@ -18,7 +18,8 @@ use Rattle.np_model.specs.Encoding.{AreMessages}
 use Rattle.np_model.specs.HostRun.{IsRefusal}
 use Rattle.np_host_end.specs.declared.host_end.State.{State}
 use Rattle.np_host_end.specs.declared.host_end.State.TheVariants.{Waiting, Finished, Refused}
-use Rattle.np_host_end.proofs.StepLemmas.{run-control, run-sent, run-journal, run-examined, encodings-append}
+use Rattle.np_model.proofs.Encodings.{encodings-append}
+use Rattle.np_model.proofs.StepLemmas.{run-control, run-sent, run-journal, run-examined}
 use Rattle.np_host_end.proofs.PageTurns.{act-turn, meet-turn}
 
 -- an end went on by the steps of a plan, and neither took bytes nor refused any

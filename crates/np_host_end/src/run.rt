@@ -2,35 +2,13 @@
 
 ghost use Rattle.std.specs.Prelude.{◌≡◌, OnOk, IfOk, false};
 ghost use Rattle.np_model.specs.declared.page.Stage.TheVariants.{Awaiting};
-ghost use Rattle.np_model.specs.Refused.{refusal_of, rule_of as rule_of_kind};
 
 use crate::host_core::Core;
 use crate::host_end::State;
 use np_laws::more_messages_law;
-use np_model::{Outstanding, Refusal, Rule, Stage, WireError, WireKind};
+use np_model::{Outstanding, Refusal, Stage};
 use np_values::NoMemory;
 use np_wire::FeedError;
-
-fn rule_of(kind: WireKind) -> Rule
-    ensures value { result ≡ rule_of_kind kind }
-{
-    match kind {
-        WireKind::Length => Rule::Length,
-        WireKind::Item => Rule::Item,
-        WireKind::Rest => Rule::Rest,
-    }
-}
-
-fn refusal(error: WireError) -> Refusal
-    ensures value { result ≡ refusal_of error }
-{
-    Refusal {
-        at: error.at,
-        rule: rule_of(error.kind),
-        first: error.first,
-        second: error.second,
-    }
-}
 
 impl Core {
     ghost use Rattle.np_host_end.specs.HostEnd.{Keeps, RestsAs, seen, total_of};
@@ -78,7 +56,7 @@ impl Core {
                     second: fault.second,
                 }))),
             },
-            Err(FeedError::Wire(error)) => Ok(Some(State::Refused(refusal(error)))),
+            Err(FeedError::Wire(error)) => Ok(Some(State::Refused(error.refusal()))),
             Err(FeedError::NoMemory) => Err(NoMemory),
         }
     }

@@ -84,25 +84,25 @@ message_format = byte_then (λ kind. is_some (format_among kinds kind)) (λ kind
 -- ---- bytes and their format
 
 -- the bytes are an item of this form, and then the rest
-pub record BeginsWith (form : List ℕ → Bool) (bytes item rest : List ℕ) : Type 0 where
+pub record IsItemThen (form : List ℕ → Bool) (bytes item rest : List ℕ) : Type 0 where
   pub parts : bytes ≡ item ++ rest
   pub of_form : form item ≡ true
 
 -- no item of this form begins the bytes
 abbrev pub NoneBegins : (List ℕ → Bool) → List ℕ → Type 0
-NoneBegins form bytes = (item rest : List ℕ) → ¬ BeginsWith form bytes item rest
+NoneBegins form bytes = (item rest : List ℕ) → ¬ IsItemThen form bytes item rest
 
 -- the bytes are the items of the format, and nothing follows
 abbrev pub IsItems : Format → List ℕ → Type 0
 IsItems Nothing bytes = bytes ≡ []
-IsItems (Then form next) bytes = (item : List ℕ) × (rest : List ℕ) × BeginsWith form bytes item rest × IsItems (next item) rest
+IsItems (Then form next) bytes = (item : List ℕ) × (rest : List ℕ) × IsItemThen form bytes item rest × IsItems (next item) rest
 
 -- an item is due at this place, behind the items before it, and none of its form begins there
 abbrev pub FaultAt : Format → List ℕ → ℕ → Type 0
 FaultAt Nothing bytes at = ⊥
 FaultAt (Then form next) bytes at =
     (NoneBegins form bytes × (at ≡ 0))
-    ⊎ ((item : List ℕ) × (rest : List ℕ) × (further : ℕ) × BeginsWith form bytes item rest × FaultAt (next item) rest further × (at ≡ length item + further))
+    ⊎ ((item : List ℕ) × (rest : List ℕ) × (further : ℕ) × IsItemThen form bytes item rest × FaultAt (next item) rest further × (at ≡ length item + further))
 
 -- at this place, behind the last item, more bytes follow
 pub record RestAt (format : Format) (bytes : List ℕ) (at : ℕ) : Type 0 where

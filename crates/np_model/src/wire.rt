@@ -1,3 +1,8 @@
+ghost use Rattle.std.specs.Prelude.{◌≡◌};
+ghost use Rattle.np_model.specs.Refused.{refusal_of};
+
+use crate::refusal::{Refusal, Rule};
+
 /// Which rule of the wire format bytes break.
 #[derive(Clone, Copy, Debug, PartialEq, Eq)]
 pub enum WireKind {
@@ -15,6 +20,25 @@ pub struct WireError {
     pub kind: WireKind,
     pub first: u64,
     pub second: u64,
+}
+
+impl WireError {
+    /// How an end refuses the bytes that have this fault.
+    pub fn refusal(self) -> Refusal
+        ensures value { result ≡ refusal_of self }
+    {
+        let rule = match self.kind {
+            WireKind::Length => Rule::Length,
+            WireKind::Item => Rule::Item,
+            WireKind::Rest => Rule::Rest,
+        };
+        Refusal {
+            at: self.at,
+            rule,
+            first: self.first,
+            second: self.second,
+        }
+    }
 }
 
 /// Where a message lies among all bytes of its stream: its first byte, the value of its length field,

@@ -1,4 +1,3 @@
 pub mod CoreRuns
 pub mod PluginTurns
 pub mod Stands
-pub mod StepLemmas

@@ -12,7 +12,8 @@ use Rattle.np_laws.specs.Laws.{PluginMoreMessagesLaw}
 use Rattle.np_plug_end.specs.PlugEnd.{PlugEndState, StandsFor, HasLeft}
 use Rattle.np_plug_end.specs.declared.plug_end.PlugState.{PlugState}
 use Rattle.np_plug_end.specs.declared.plug_end.PlugState.TheVariants.{Waiting, Finished, Refused}
-use Rattle.np_plug_end.proofs.StepLemmas.{run-control, run-sent, run-journal, run-examined, encodings-append}
+use Rattle.np_model.proofs.Encodings.{encodings-append}
+use Rattle.np_model.proofs.StepLemmas.{run-control, run-sent, run-journal, run-examined}
 use Rattle.np_plug_end.proofs.PluginTurns.{meet-turn}
 
 -- an end went on by the steps of a plan, and refused nothing

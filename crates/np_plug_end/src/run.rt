@@ -1,36 +1,14 @@
 //! The run of an end, from message to message.
 
 ghost use Rattle.std.specs.Prelude.{◌≡◌, OnOk, IfOk, false};
-ghost use Rattle.np_model.specs.Refused.{refusal_of, rule_of as rule_of_kind};
 ghost use Rattle.np_model.specs.PluginRun.{IsListening};
 
 use crate::plug_core::Core;
 use crate::plug_end::PlugState;
 use np_laws::plugin_more_messages_law;
-use np_model::{PluginStage, Refusal, Rule, WireError, WireKind};
+use np_model::{PluginStage, Refusal};
 use np_values::NoMemory;
 use np_wire::FeedError;
-
-fn rule_of(kind: WireKind) -> Rule
-    ensures value { result ≡ rule_of_kind kind }
-{
-    match kind {
-        WireKind::Length => Rule::Length,
-        WireKind::Item => Rule::Item,
-        WireKind::Rest => Rule::Rest,
-    }
-}
-
-fn refusal(error: WireError) -> Refusal
-    ensures value { result ≡ refusal_of error }
-{
-    Refusal {
-        at: error.at,
-        rule: rule_of(error.kind),
-        first: error.first,
-        second: error.second,
-    }
-}
 
 impl Core {
     ghost use Rattle.np_plug_end.specs.PlugEnd.{Keeps, RestsAs, seen, total_of};
@@ -80,7 +58,7 @@ impl Core {
                 self.serve(&message)?;
                 Ok(None)
             }
-            Err(FeedError::Wire(error)) => Ok(Some(PlugState::Refused(refusal(error)))),
+            Err(FeedError::Wire(error)) => Ok(Some(PlugState::Refused(error.refusal()))),
             Err(FeedError::NoMemory) => Err(NoMemory),
         }
     }

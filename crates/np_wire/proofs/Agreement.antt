@@ -6,7 +6,7 @@ use Rattle.np_model.specs.declared.wire.WireError.{WireError}
 use Rattle.np_model.specs.declared.wire.WireKind.TheVariants.{Item, Rest}
 use Rattle.np_model.specs.declared.wire.Extent.{Extent}
 use Rattle.np_model.specs.Decoding.{◌>>=◌, Reading, fault}
-use Rattle.np_model.specs.Faults.{Format, Nothing, Then, is_byte, byte_then, BeginsWith, NoneBegins, IsItems, FaultAt}
+use Rattle.np_model.specs.Faults.{Format, Nothing, Then, is_byte, byte_then, IsItemThen, NoneBegins, IsItems, FaultAt}
 
 -- ---- what a reader gives
 
@@ -28,7 +28,7 @@ Agrees left extent f bytes (Err e) = Stops extent f bytes e
 
 -- a result is that of one item
 abbrev pub ItemAgrees : {C : Type 0} → (C → List ℕ) → Extent → (List ℕ → Bool) → List ℕ → Result C WireError → Type 0
-ItemAgrees left extent form bytes (Ok c) = (item : List ℕ) × BeginsWith form bytes item (left c)
+ItemAgrees left extent form bytes (Ok c) = (item : List ℕ) × IsItemThen form bytes item (left c)
 ItemAgrees left extent form bytes (Err e) = NoneBegins form bytes × (e ≡ fault Item extent bytes)
 
 -- a result is that of one byte
@@ -50,7 +50,7 @@ pub passes_nothing : (bytes : List ℕ) → Passes Nothing bytes bytes
 passes_nothing bytes = record { items = []; parts = refl; are_items = refl }
 
 -- behind an item
-passes_on : (form : List ℕ → Bool) (next : List ℕ → Format) (bytes item rest end : List ℕ) → BeginsWith form bytes item rest → Passes (next item) rest end → Passes (Then form next) bytes end
+passes_on : (form : List ℕ → Bool) (next : List ℕ → Format) (bytes item rest end : List ℕ) → IsItemThen form bytes item rest → Passes (next item) rest end → Passes (Then form next) bytes end
 passes_on form next bytes item rest end h p =
     record {
       items = item ++ p.items;
@@ -58,7 +58,7 @@ passes_on form next bytes item rest end h p =
       are_items = (item, p.items, record { parts = refl; of_form = h.of_form }, p.are_items);
     }
 
-stops_on : (extent : Extent) (form : List ℕ → Bool) (next : List ℕ → Format) (bytes item rest : List ℕ) (e : WireError) → BeginsWith form bytes item rest → Stops extent (next item) rest e → Stops extent (Then form next) bytes e
+stops_on : (extent : Extent) (form : List ℕ → Bool) (next : List ℕ → Format) (bytes item rest : List ℕ) (e : WireError) → IsItemThen form bytes item rest → Stops extent (next item) rest e → Stops extent (Then form next) bytes e
 stops_on extent form next bytes item rest e h (at_item passed end parts is error) =
     at_item (item ++ passed) end (h.parts ∙ ap (λ (l : List ℕ). item ++ l) parts ∙ sym (append_assoc item passed end)) (inr (item, rest, length passed, h, is, length-append item passed)) error
 stops_on extent form next bytes item rest e h (at_rest items end parts is more error) =
@@ -67,7 +67,7 @@ stops_on extent form next bytes item rest e h (at_rest items end parts is more e
 stops_here : (extent : Extent) (form : List ℕ → Bool) (next : List ℕ → Format) (bytes : List ℕ) (e : WireError) → NoneBegins form bytes → e ≡ fault Item extent bytes → Stops extent (Then form next) bytes e
 stops_here extent form next bytes e none error = at_item [] bytes refl (inl (none, refl)) error
 
-agrees_on : {C : Type 0} (left : C → List ℕ) (extent : Extent) (form : List ℕ → Bool) (next : List ℕ → Format) (bytes item rest : List ℕ) (r : Result C WireError) → BeginsWith form bytes item rest → Agrees left extent (next item) rest r → Agrees left extent (Then form next) bytes r
+agrees_on : {C : Type 0} (left : C → List ℕ) (extent : Extent) (form : List ℕ → Bool) (next : List ℕ → Format) (bytes item rest : List ℕ) (r : Result C WireError) → IsItemThen form bytes item rest → Agrees left extent (next item) rest r → Agrees left extent (Then form next) bytes r
 agrees_on left extent form next bytes item rest (Ok c) h p = passes_on form next bytes item rest (left c) h p
 agrees_on left extent form next bytes item rest (Err e) h p = stops_on extent form next bytes item rest e h p
 

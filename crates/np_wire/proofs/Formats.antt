@@ -6,7 +6,7 @@ use Rattle.std.proofs.lemmas.List.{take_at, append_cancel_left, append-nil}
 use Rattle.std.proofs.lemmas.Slice.Eq.{bytes_eq-Decides}
 use Rattle.np_model.specs.declared.wire.WireKind.{WireKind}
 use Rattle.np_model.specs.declared.wire.WireKind.TheVariants.{Length, Item, Rest}
-use Rattle.np_model.specs.Faults.{BreaksAt, Format, Nothing, Then, is_byte, byte_then, is_text_item, texts_format, hello_format, new_format, kinds, format_among, is_no_releases, message_format, BeginsWith, IsItems, FaultAt, RestAt}
+use Rattle.np_model.specs.Faults.{BreaksAt, Format, Nothing, Then, is_byte, byte_then, is_text_item, texts_format, hello_format, new_format, kinds, format_among, is_no_releases, message_format, IsItemThen, IsItems, FaultAt, RestAt}
 
 -- ---- no item begins another one
 
@@ -97,7 +97,7 @@ record SameCut (a b x y : List ℕ) : Type 0 where
   pub item : a ≡ b
   pub rest : x ≡ y
 
-same_cut : (form : List ℕ → Bool) (bytes a b x y : List ℕ) → IsPrefixFree form → BeginsWith form bytes a x → BeginsWith form bytes b y → SameCut a b x y
+same_cut : (form : List ℕ → Bool) (bytes a b x y : List ℕ) → IsPrefixFree form → IsItemThen form bytes a x → IsItemThen form bytes b y → SameCut a b x y
 same_cut form bytes a b x y free p q =
     let whole : a ++ x ≡ b ++ y = sym p.parts ∙ q.parts in
     let item : a ≡ b = free a b x y p.of_form q.of_form whole in
@@ -116,7 +116,7 @@ one_fault (Then form next) bytes j k code (inr (a, x, m, p, first, j-is)) (inr (
     j-is ∙ ap (λ (l : List ℕ). length l + m) c.item ∙ ap (λ (i : ℕ). length b + i) further ∙ sym k-is
 
 -- bytes still begin with an item if more follow
-begins_more : (form : List ℕ → Bool) (bytes item rest more : List ℕ) → BeginsWith form bytes item rest → BeginsWith form (bytes ++ more) item (rest ++ more)
+begins_more : (form : List ℕ → Bool) (bytes item rest more : List ℕ) → IsItemThen form bytes item rest → IsItemThen form (bytes ++ more) item (rest ++ more)
 begins_more form bytes item rest more h =
     record { parts = ap (λ (l : List ℕ). l ++ more) h.parts ∙ append_assoc item rest more; of_form = h.of_form }
 
@@ -124,7 +124,7 @@ begins_more form bytes item rest more h =
 one_items : (f : Format) (a b x y : List ℕ) → IsPrefixCode f → IsItems f a → IsItems f b → a ++ x ≡ b ++ y → a ≡ b
 one_items Nothing a b x y code p q e = p ∙ sym q
 one_items (Then form next) a b x y code (i, r, p, m) (j, s, q, n) e =
-    let other : BeginsWith form (a ++ x) j (s ++ y) = subst (λ (l : List ℕ). BeginsWith form l j (s ++ y)) (sym e) (begins_more form b j s y q) in
+    let other : IsItemThen form (a ++ x) j (s ++ y) = subst (λ (l : List ℕ). IsItemThen form l j (s ++ y)) (sym e) (begins_more form b j s y q) in
     let c = same_cut form (a ++ x) i j (r ++ x) (s ++ y) code.0 (begins_more form a i r x p) other in
     let moved : IsItems (next j) r = subst (λ (l : List ℕ). IsItems (next l) r) c.item m in
     let further : r ≡ s = one_items (next j) r s x y (code.1 j) moved n c.rest in

@@ -12,7 +12,7 @@ use Rattle.np_model.specs.declared.message.Depth.{Depth}
 use Rattle.np_model.specs.declared.wire.WireKind.TheVariants.{Item}
 use Rattle.np_model.specs.declared.wire.Extent.{Extent}
 use Rattle.np_model.specs.Decoding.{Reading, fault, byte_item, releases_item, depth_of, depth_item, read_text, read_texts, read_code}
-use Rattle.np_model.specs.Faults.{is_byte, is_within, is_text_item, texts_format, is_depth, is_no_releases, BeginsWith, NoneBegins}
+use Rattle.np_model.specs.Faults.{is_byte, is_within, is_text_item, texts_format, is_depth, is_no_releases, IsItemThen, NoneBegins}
 use Rattle.np_wire.proofs.Formats.{both, zeros_is}
 use Rattle.np_wire.proofs.Agreement.{Agrees, ItemAgrees, ByteAgrees, behind, all, passes_nothing, item_bind, byte_is_item, agrees_made}
 
@@ -91,7 +91,7 @@ record HasText (high low : ℕ) (bytes item rest : List ℕ) : Type 0 where
   pub valid : is_text text ≡ true
   pub parts : bytes ≡ text ++ rest
 
-has_text : (high low : ℕ) (bytes item rest : List ℕ) → BeginsWith is_text_item (high ∷ low ∷ bytes) item rest → HasText high low bytes item rest
+has_text : (high low : ℕ) (bytes item rest : List ℕ) → IsItemThen is_text_item (high ∷ low ∷ bytes) item rest → HasText high low bytes item rest
 has_text high low bytes [] rest h = (let no = h.of_form in absurd cc)
 has_text high low bytes (i ∷ []) rest h = (let no = h.of_form in absurd cc)
 has_text high low bytes (i ∷ j ∷ text) rest h =

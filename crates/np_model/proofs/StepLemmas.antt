@@ -1,7 +1,6 @@
 -- What a plan's steps do to a side, part by part.
 use Rattle.std.proofs.Common.{◌≡◌, ℕ, List, [], ◌∷◌, ◌++◌, refl, ap, sym, ◌∙◌, append_assoc, append-nil}
 use Rattle.np_model.specs.declared.message.Message.{Message}
-use Rattle.np_model.specs.Encoding.{encoding, encodings}
 use Rattle.np_model.specs.Side.{SideState, Micro, Control, Send, Deliver, Print, deliver, micro_step, run_steps}
 use Rattle.np_model.specs.Steps.{control_after, sent_by, printed_by}
 
@@ -43,7 +42,3 @@ run-examined (Control d ∷ steps) p = run-examined steps (record p { control = 
 run-examined (Send m ∷ steps) p = run-examined steps (micro_step (Send m) p)
 run-examined (Deliver ∷ steps) p = run-examined steps (deliver p.undelivered p) ∙ (delivered p.undelivered p).examined
 run-examined (Print line ∷ steps) p = run-examined steps (micro_step (Print line) p)
-
-pub encodings-append : (a b : List Message) → encodings (a ++ b) ≡ encodings a ++ encodings b
-encodings-append [] b = refl
-encodings-append (m ∷ a) b = ap (λ (l : List ℕ). encoding m ++ l) (encodings-append a b) ∙ sym (append_assoc (encoding m) (encodings a) (encodings b))

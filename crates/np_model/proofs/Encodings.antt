@@ -1,0 +1,8 @@
+-- The bytes of several messages.
+use Rattle.std.proofs.Common.{◌≡◌, ℕ, List, [], ◌∷◌, ◌++◌, refl, ap, sym, ◌∙◌, append_assoc}
+use Rattle.np_model.specs.declared.message.Message.{Message}
+use Rattle.np_model.specs.Encoding.{encoding, encodings}
+
+pub encodings-append : (a b : List Message) → encodings (a ++ b) ≡ encodings a ++ encodings b
+encodings-append [] b = refl
+encodings-append (m ∷ a) b = ap (λ (l : List ℕ). encoding m ++ l) (encodings-append a b) ∙ sym (append_assoc (encoding m) (encodings a) (encodings b))
