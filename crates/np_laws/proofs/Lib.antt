@@ -12,3 +12,4 @@ pub mod CallFormat
 pub mod Honest
 pub mod Replies
 pub mod FewCalls
+pub mod Weights

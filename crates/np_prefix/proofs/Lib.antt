@@ -6,6 +6,5 @@ pub mod PluginTexts
 pub mod CallBytes
 pub mod PluginUnrefused
 pub mod Unrefused
-pub mod Weights
 pub mod Rests
 pub mod PluginRests

@@ -20,7 +20,7 @@ use Rattle.np_model.specs.Encoding.{AreMessages}
 use Rattle.np_prefix.specs.Prefix.{IsWhole}
 use Rattle.np_prefix.proofs.Streams.{Wire, Waiting, empty-waits, begun-or-whole}
 use Rattle.np_prefix.proofs.Texts.{machine, replies-keep, ended-rests}
-use Rattle.np_prefix.proofs.Weights.{control_weight, begin-lighter, ready-lighter, unanswered-lighter, Light, light}
+use Rattle.np_laws.proofs.Weights.{control_weight, begin-lighter, ready-lighter, unanswered-lighter, Light, light}
 
 -- ---- what steps leave
 

@@ -33,7 +33,7 @@ control_weight c = length c.commands + stage_weight c.stage
 
 -- ---- a turn without a message
 
-abbrev Lighter : PageControl → List (Micro PageControl) → Type 0
+abbrev pub Lighter : PageControl → List (Micro PageControl) → Type 0
 Lighter c steps = control_weight (control_after steps c) < control_weight c
 
 close-lighter : (c : PageControl) (o : Option ℕ) → stage_weight c.stage ≡ 1 → Lighter c (close_plan c o)
