@@ -1,2 +1,4 @@
 pub mod EndLines
 pub mod Reasons
+pub mod Parts
+pub mod Stops

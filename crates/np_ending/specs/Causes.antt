@@ -1,4 +1,4 @@
--- When a run of the host may stop by a fault.
+-- When a run of a program may stop by a fault, and what a sink took by then.
 use Rattle.std.specs.Prelude.{◌≡◌, ℕ, ◌≤◌, List, ◌++◌, Option, Some, Result, Ok, Err}
 use Rattle.np_ports.specs.Causes.{Rose}
 use Rattle.np_ports.specs.declared.error.PortError.{PortError}
@@ -28,3 +28,8 @@ Adds taken0 taken1 bytes = (t : List ℕ) → taken0 ≡ Some t → taken1 ≡ S
 -- where the sink tells what it took, it took a part of these bytes
 abbrev pub AddsPart : Option (List ℕ) → Option (List ℕ) → List ℕ → Type 0
 AddsPart taken0 taken1 bytes = (t : List ℕ) → taken0 ≡ Some t → (x : List ℕ) × (y : List ℕ) × (bytes ≡ x ++ y) × (taken1 ≡ Some (t ++ x))
+
+-- a list begins with another
+pub record BeginsWith (all front : List ℕ) : Type 0 where
+  pub rest : List ℕ
+  pub parts : all ≡ front ++ rest

@@ -1,6 +1,5 @@
 -- What of the last lines of a session was printed by the time that it was cut short.
-use Rattle.std.proofs.Common.{◌≡◌, ℕ, List, [], ◌++◌, inl, inr, length, Option, Some, refl, sym, ap, subst, ◌∙◌, append_assoc, append-nil, Result, Ok, Err}
-use Rattle.std.specs.Prelude.{OnErr}
+use Rattle.std.proofs.Common.{◌≡◌, ℕ, List, [], ◌++◌, inl, inr, length, Option, Some, refl, sym, ap, subst, ◌∙◌, append_assoc, append-nil}
 use Rattle.np_model.specs.declared.script.Page.{Page}
 use Rattle.np_model.specs.declared.refusal.Refusal.{Refusal}
 use Rattle.np_model.specs.Encoding.{encodings}
@@ -12,14 +11,13 @@ use Rattle.np_ports.specs.Peer.{Known}
 use Rattle.np_host_end.specs.HostEnd.{EndState, StandsFor, StandsLost, HasLeft}
 use Rattle.np_host_end.specs.declared.host_end.State.{State}
 use Rattle.np_host_end.specs.declared.host_end.State.TheVariants as states
-use Rattle.np_ending.specs.declared.stop.Stop.{Stop}
 use Rattle.np_ending.specs.declared.ending.Ending.{Ending}
 use Rattle.np_ending.specs.declared.ending.Ending.TheVariants.{Done, Unsent, Ended, Failed, Refused}
-use Rattle.np_ending.specs.Causes.{AddsPart}
-use Rattle.np_host.specs.Session.{BeginsWith}
+use Rattle.np_ending.specs.Causes.{AddsPart, BeginsWith}
 use Rattle.np_host.specs.Live.{Waits, AtEnding, RanCut}
 use Rattle.np_host.specs.Closing.{Loses, PrintsAlone, LosesPart, ClosedPart}
-use Rattle.np_host.proofs.Growth.{begins-append, begins-then, rest-prints, lost-comes}
+use Rattle.np_ending.proofs.Parts.{begins-append, begins-then}
+use Rattle.np_host.proofs.Growth.{rest-prints, lost-comes}
 use Rattle.np_host.proofs.Closings.{IsPageEnd, IsLoss, last_line, page-end, loss, was-lost}
 
 -- ---- the page goes on alone
@@ -125,8 +123,3 @@ losing-part taken0 taken1 e ending kind is lost alone = subst (λ (x : Ending). 
         first_stays = first-begins first l.printed sink x.part l.sink_is;
       },
     ))
-
--- what holds of a call that was cut short
-pub on-stop : {T : Type 0} (result : Result T Stop) (P : Type 0) → P → OnErr result P
-on-stop (Ok x) P p = tt
-on-stop (Err stop) P p = p

@@ -17,8 +17,8 @@ use Rattle.np_host_end.specs.declared.host_end.State.{State}
 use Rattle.np_ending.specs.declared.ending.Ending.{Ending}
 use Rattle.np_ending.specs.declared.ending.Ending.TheVariants.{Done, Unsent, Ended, Failed, Refused}
 use Rattle.np_prefix.specs.Alone.{RefusesAt}
-use Rattle.np_host.specs.Session.{BeginsWith, Completed, PeerEnded, PipeFailed, PeerRefused}
-use Rattle.np_ending.specs.Causes.{Adds}
+use Rattle.np_host.specs.Session.{Completed, PeerEnded, PipeFailed, PeerRefused}
+use Rattle.np_ending.specs.Causes.{Adds, BeginsWith}
 use Rattle.np_host.specs.Live.{Live, Going, AtEnding, Turned, Ran}
 use Rattle.np_model.specs.HostRun.{GoesOnLost}
 use Rattle.np_ending.specs.Status.{status_of, IsRunStatus}

@@ -9,12 +9,13 @@ use Rattle.np_host_end.specs.HostEnd.{EndState, StandsFor}
 use Rattle.np_host_end.specs.declared.host_end.State.{State}
 use Rattle.np_prefix.specs.Alone.{ComesTo}
 use Rattle.np_ending.specs.declared.ending.Ending.{Ending}
-use Rattle.np_host.specs.Session.{Exchanged, BeginsWith, Interrupted, Told}
+use Rattle.np_host.specs.Session.{Exchanged, Interrupted, Told}
 use Rattle.np_ending.specs.PeerCauses.{TookPart, ReadCut, HasReason}
 use Rattle.np_host.specs.Live.{Live, Ran, RanCut, Turned, TurnCut}
 use Rattle.np_host.specs.Closing.{ClosedPart, CutShort}
 use Rattle.np_host.proofs.Closings.{starts-going}
 use Rattle.np_host.proofs.Exchanges.{comes-to, waits-at, all-taken, exchanged-read, going-ran, live-unsent, Listening}
+use Rattle.np_ending.specs.Causes.{BeginsWith}
 
 -- ---- an end in the midst of its exchange
 

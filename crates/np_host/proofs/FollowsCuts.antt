@@ -1,8 +1,7 @@
 -- From a page that was cut short alone to the one process.
-use Rattle.std.proofs.Common.{◌≡◌, ℕ, ◌≤◌, List, [], ◌∷◌, ◌++◌, length, ◌⊎◌, inl, inr, ⊎_elim, Option, Some, None, refl, sym, ap, subst, ◌∙◌, append_assoc}
-use Rattle.np_model.specs.declared.message.Message.{Message}
+use Rattle.std.proofs.Common.{◌≡◌, ℕ, ◌≤◌, List, ◌++◌, length, ◌⊎◌, inl, inr, ⊎_elim, Option, Some, None, subst}
 use Rattle.np_model.specs.declared.script.Page.{Page}
-use Rattle.np_model.specs.Encoding.{encoding, encodings}
+use Rattle.np_model.specs.Encoding.{encodings}
 use Rattle.np_model.specs.declared.script.Plugin.{Plugin}
 use Rattle.np_model.specs.Journal.{end_line}
 use Rattle.np_model.specs.HostRun.{IsPluginText}
@@ -14,13 +13,13 @@ use Rattle.np_prefix.specs.Prefix.{WaitsLaw, EndsLaw, BeginsLaw, ComesToRestLaw,
 use Rattle.np_ending.specs.declared.ending.Ending.{Ending}
 use Rattle.np_ending.specs.declared.ending.Ending.TheVariants as endings
 use Rattle.np_host.specs.Words.{RunWords, run_words}
-use Rattle.np_host.specs.Session.{Exchanged, BeginsWith, Interrupted}
+use Rattle.np_host.specs.Session.{Exchanged, Interrupted}
 use Rattle.np_host.specs.Closing.{OutcomeOf, CutShort}
 use Rattle.np_ending.specs.Causes.{AddsPart}
 use Rattle.np_host.specs.Host.{OfWords, RunCut, CutWords}
 use Rattle.np_host.specs.Main.{HostDone, HostLost, HostBroken, HostInterrupted, HostCut, ForEachPlugin}
 use Rattle.np_host.proofs.Follows.{exchange-follows, same-given, done-follows, lost-follows, broken-follows, never-refused}
-use Rattle.np_host.proofs.Growth.{begins-then}
+use Rattle.np_ending.proofs.Parts.{begins-then, messages-begin}
 
 -- the laws that are used
 pub record RunLaws : Type 0 where
@@ -31,14 +30,6 @@ pub record RunLaws : Type 0 where
   pub rests : ComesToRestLaw
   pub never : NeverRefusesLaw
   pub few : FewBytesLaw
-
-encodings-append : (a b : List Message) → encodings (a ++ b) ≡ encodings a ++ encodings b
-encodings-append [] b = refl
-encodings-append (m ∷ a) b = ap (λ (l : List ℕ). encoding m ++ l) (encodings-append a b) ∙ sym (append_assoc (encoding m) (encodings a) (encodings b))
-
--- more messages behind these
-messages-begin : (all few more : List Message) → all ≡ few ++ more → BeginsWith (encodings all) (encodings few)
-messages-begin all few more is = record { rest = encodings more; parts = ap encodings is ∙ encodings-append few more }
 
 interrupted-follows : RunLaws → (page : Page) (plugin : Plugin) (old : Known) (first : List ℕ) (new : Known) (sink given : List ℕ) → Interrupted page old first new sink → new.given ≡ old.given ++ given → IsPluginText page plugin given → HostInterrupted page plugin old first new sink given
 interrupted-follows laws page plugin old first new sink given c e t =

@@ -1,5 +1,5 @@
 -- The lines of a side only grow, and where it rests they are those of every turn before.
-use Rattle.std.proofs.Common.{◌≡◌, ℕ, zero, suc, ◌+◌, List, [], ◌∷◌, ◌++◌, refl, sym, ap, subst, ◌∙◌, append_assoc, append-nil, arith, Option, Some, None}
+use Rattle.std.proofs.Common.{◌≡◌, ℕ, zero, suc, ◌+◌, List, [], ◌∷◌, ◌++◌, refl, ap, subst, ◌∙◌, arith, Option, Some, None}
 use Rattle.np_model.specs.declared.message.Message.{Message}
 use Rattle.np_model.specs.declared.page.Outstanding.{Outstanding}
 use Rattle.np_model.specs.declared.page.Stage.{Stage}
@@ -10,18 +10,8 @@ use Rattle.np_model.specs.Run.{Pace, Acts, Awaits, HasEnded, Meeting, Accepts, R
 use Rattle.np_model.specs.PagePlan.{PageControl}
 use Rattle.np_model.specs.HostRun.{GoesOnLost, IsAwaiting}
 use Rattle.np_laws.specs.Laws.{LostLaw}
-use Rattle.np_host.specs.Session.{BeginsWith}
-
--- ---- lists
-
-pub begins-same : (l : List ℕ) → BeginsWith l l
-begins-same l = record { rest = []; parts = sym (append-nil l) }
-
-pub begins-append : (l more : List ℕ) → BeginsWith (l ++ more) l
-begins-append l more = record { rest = more; parts = refl }
-
-pub begins-then : (a b c : List ℕ) → BeginsWith a b → BeginsWith b c → BeginsWith a c
-begins-then a b c f g = record { rest = g.rest ++ f.rest; parts = f.parts ∙ ap (λ (l : List ℕ). l ++ f.rest) g.parts ∙ append_assoc c g.rest f.rest }
+use Rattle.np_ending.specs.Causes.{BeginsWith}
+use Rattle.np_ending.proofs.Parts.{begins-same, begins-append, begins-then}
 
 -- ---- a side
 

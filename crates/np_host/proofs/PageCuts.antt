@@ -1,11 +1,11 @@
 -- What a run did by the time that it was cut short, from the words on.
-use Rattle.std.proofs.Common.{◌≡◌, ℕ, List, [], ◌++◌, inl, inr, Option, Some, None, Ok, Err, refl, sym, ap, subst, ◌∙◌, append-nil}
+use Rattle.std.proofs.Common.{◌≡◌, ℕ, List, [], ◌++◌, inl, inr, Option, Some, None, Ok, Err, refl, sym, subst, ◌∙◌, append-nil}
 use Rattle.np_model.specs.declared.script.Page.{Page}
 use Rattle.np_model.specs.Script.{page_of}
 use Rattle.np_model.specs.Journal.{end_line}
 use Rattle.np_ports.specs.Peer.{Known, Starts, started}
 use Rattle.np_ports.specs.Files.{Contents}
-use Rattle.np_ports.specs.Causes.{Rose, FailedOnly, HasCause}
+use Rattle.np_ports.specs.Causes.{Rose}
 use Rattle.np_ports.specs.declared.error.PortError.{PortError}
 use Rattle.np_ports.specs.declared.error.PortError.TheVariants as ports
 use Rattle.np_ending.specs.Causes.{AddsPart}
@@ -13,6 +13,7 @@ use Rattle.np_host.specs.Words.{RunWords, run_words}
 use Rattle.np_host.specs.Session.{Told}
 use Rattle.np_host.specs.Closing.{CutShort}
 use Rattle.np_host.specs.Host.{IsDueEarly, RunCut, OfWords, CutWords}
+use Rattle.np_ending.proofs.Parts.{nothing-added}
 use Rattle.np_host.proofs.Pages.{WasRead, page-is, no-page}
 
 -- ---- before the page began
@@ -31,10 +32,6 @@ early-cut pipe_failed peer_ended name program file_failed start_failed files kno
     let d = due f old told k in
     let p = adds first o in
     (d.0, first ++ p.0, d.1, p.3, inl (record { status = status; line = p.0; due = inr d.2; line_part = record { rest = p.1; parts = p.2 }; printed = refl }))
-
--- a call that failed has its cause
-pub failed-cause : {T : Type 0} (before now : ℕ) (e : PortError) → e ≡ ports.Failed → HasCause {T = T} before now (Err e) → Rose before now
-failed-cause {T} before now e is cause = subst (λ (x : PortError). FailedOnly {T = T} (Err x) (Rose before now)) is cause.failed
 
 pub due-script : (name : List ℕ) (program : List (List ℕ)) (file_failed start_failed : Type 0) (files0 files1 : Option Contents) (bytes seen : List ℕ) (known : Option Known) → WasRead files0 files1 name bytes → seen ≡ bytes → page_of seen ≡ None → DueEarly name program file_failed start_failed files0 known known 3
 due-script name program file_failed start_failed files0 files1 bytes seen known read same none f old told k = (old, k, inl (refl, no-page files0 files1 name bytes seen read same none f told, refl))
@@ -68,5 +65,5 @@ pub words-nothing : (pipe_failed peer_ended : Type 0) (words : List (List ℕ)) 
 words-nothing pipe_failed peer_ended words file_failed start_failed files known taken = at (run_words words)
   where
     at : (o : Option RunWords) → OfWords o (λ r. RunCut (CutShort pipe_failed peer_ended) r.page r.program file_failed start_failed files known known taken taken) ((known ≡ known) × AddsPart taken taken (end_line 2))
-    at None = (refl, λ t told. ([], end_line 2, refl, told ∙ ap (λ (l : List ℕ). Some l) (sym (append-nil t))))
+    at None = (refl, nothing-added taken (end_line 2))
     at (Some r) = nothing-cut pipe_failed peer_ended r.page r.program file_failed start_failed files known known taken (λ old k. k)

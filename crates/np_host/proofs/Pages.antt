@@ -1,6 +1,6 @@
 -- From the bytes of a file to its page.
-use Rattle.std.proofs.Common.{◌≡◌, ℕ, ◌<◌, List, length, take, Bool, true, false, cond, Option, Some, None, Result, Ok, Err, refl, sym, ap, subst, ◌∙◌, arith, inl, inr}
-use Rattle.std.specs.Prelude.{nat_lt, IfOk}
+use Rattle.std.proofs.Common.{◌≡◌, ℕ, ◌<◌, List, length, take, Bool, true, false, cond, Option, Some, None, Ok, refl, sym, ap, subst, ◌∙◌, arith, inl, inr}
+use Rattle.std.specs.Prelude.{nat_lt}
 use Rattle.std.proofs.lemmas.Bool.{cases_lt}
 use Rattle.std.proofs.lemmas.Bool.Decides.{nat_tests}
 use Rattle.std.proofs.lemmas.List.{take_all, length-take-le}
@@ -8,7 +8,6 @@ use Rattle.np_model.specs.declared.script.Page.{Page}
 use Rattle.np_model.specs.Script.{page_of, page_in}
 use Rattle.np_ports.specs.Peer.{Known, Starts, started}
 use Rattle.np_ports.specs.Files.{Contents}
-use Rattle.np_ending.specs.declared.stop.Stop.{Stop}
 use Rattle.np_host.specs.Host.{RunsPage, IsNoPage, OnlyNoPage}
 use Rattle.np_ending.specs.Status.{IsRunStatus}
 use Rattle.np_host.specs.Closing.{SessionOutcome}
@@ -62,12 +61,3 @@ ran-not name program files known0 known1 taken0 taken1 status is ran = absurd (n
     never (inr (inl e)) = absurd (omega arith)
     never (inr (inr (inl e))) = absurd (omega arith)
     never (inr (inr (inr e))) = absurd (omega arith)
-
--- what holds of each status
-pub on-each : (result : Result ℕ Stop) (P : ℕ → Type 0) → ((status : ℕ) → P status) → IfOk result P
-on-each (Ok status) P f = f status
-on-each (Err stop) P f = tt
-
-pub if-then : (result : Result ℕ Stop) (P Q : ℕ → Type 0) → ((status : ℕ) → P status → Q status) → IfOk result P → IfOk result Q
-if-then (Ok status) P Q f h = f status h
-if-then (Err stop) P Q f h = tt

@@ -9,9 +9,8 @@ use Rattle.np_ports.specs.declared.file_call.FileCall.{FileCall}
 use Rattle.np_ports.specs.declared.file_call.FileCall.TheVariants.{Read}
 use Rattle.np_prefix.specs.Alone.{RefusesNothing}
 use Rattle.np_ending.specs.declared.ending.Ending.{Ending}
-use Rattle.np_ending.specs.Causes.{Adds, AddsPart}
+use Rattle.np_ending.specs.Causes.{Adds, AddsPart, BeginsWith}
 use Rattle.np_host.specs.Words.{RunWords, run_words}
-use Rattle.np_host.specs.Session.{BeginsWith}
 use Rattle.np_ending.specs.Status.{status_of, IsRunStatus}
 use Rattle.np_host.specs.Closing.{OutcomeOf}
 

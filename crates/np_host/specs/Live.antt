@@ -13,8 +13,8 @@ use Rattle.np_host_end.specs.declared.host_end.State.TheVariants.{Waiting, Finis
 use Rattle.np_ending.specs.declared.ending.Ending.{Ending}
 use Rattle.np_ending.specs.declared.ending.Ending.TheVariants as endings
 use Rattle.np_prefix.specs.Alone.{too_many_bytes}
-use Rattle.np_host.specs.Session.{Exchanged, BeginsWith, Interrupted}
-use Rattle.np_ending.specs.Causes.{Adds, AddsPart}
+use Rattle.np_host.specs.Session.{Exchanged, Interrupted}
+use Rattle.np_ending.specs.Causes.{Adds, AddsPart, BeginsWith}
 use Rattle.np_host.specs.Flow.{Printed, HeardBytes, HeardEnd, HeardFault}
 
 -- An exchange that began with old and first stands at now and sink: the peer took `taken` of the end's messages, of which `sent` was cut off.

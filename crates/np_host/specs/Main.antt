@@ -14,8 +14,8 @@ use Rattle.np_ports.specs.Peer.{Known, started}
 use Rattle.np_ports.specs.Files.{Contents}
 use Rattle.np_prefix.specs.Prefix.{IsWhole}
 use Rattle.np_host.specs.Words.{run_words}
-use Rattle.np_host.specs.Session.{BeginsWith}
 use Rattle.np_host.specs.Host.{OfWords}
+use Rattle.np_ending.specs.Causes.{BeginsWith}
 
 -- Before this read the peer had taken all that the page sends in the run that only the whole messages given by then reach.
 pub record ReadFollows (page : Page) (plugin : Plugin) (old : Known) (given taken : List ℕ) (r : ℕ × ℕ) : Type 0 where

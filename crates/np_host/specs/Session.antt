@@ -10,6 +10,7 @@ use Rattle.np_model.specs.HostRun.{GoesOnLost}
 use Rattle.np_model.specs.Journal.{end_line, refused_line}
 use Rattle.np_ports.specs.Peer.{Known}
 use Rattle.np_prefix.specs.Alone.{ComesTo, WaitsAt, EndsAt, RefusesAt}
+use Rattle.np_ending.specs.Causes.{BeginsWith}
 
 -- At this read of a session in which the page got and sent these bytes in all, the page waited for a message that wasn't whole, and the peer had taken all its messages so far.
 pub record ReadsWell (page : Page) (old : Known) (got sent : List ℕ) (r : ℕ × ℕ) : Type 0 where
@@ -27,11 +28,6 @@ pub record Exchanged (page : Page) (old new : Known) (got sent : List ℕ) : Typ
   pub starts : new.starts ≡ old.starts
   pub reads_are : new.reads ≡ old.reads ++ reads
   pub each : AllByRecursion (ReadsWell page old got sent) reads
-
--- a list begins with another
-pub record BeginsWith (all front : List ℕ) : Type 0 where
-  pub rest : List ℕ
-  pub parts : all ≡ front ++ rest
 
 -- Status 0: Shutdown's reply was delivered.
 pub record Completed (page : Page) (old : Known) (first : List ℕ) (new : Known) (sink : List ℕ) : Type 0 where

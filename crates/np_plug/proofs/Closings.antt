@@ -9,9 +9,8 @@ use Rattle.np_prefix.specs.PluginAlone.{PluginRefusesAt}
 use Rattle.np_plug_end.specs.PlugEnd.{PlugEndState, StandsFor}
 use Rattle.np_ending.specs.declared.ending.Ending.{Ending}
 use Rattle.np_ending.specs.declared.ending.Ending.TheVariants.{Done, Unsent, Ended, Failed, Refused}
-use Rattle.np_ending.specs.Causes.{Adds}
+use Rattle.np_ending.specs.Causes.{Adds, BeginsWith}
 use Rattle.np_ending.specs.Status.{ending_line, status_of, IsRunStatus}
-use Rattle.np_plug.specs.Session.{BeginsWith}
 use Rattle.np_plug.specs.Live.{Live, Going, AtEnding, Turned}
 use Rattle.np_plug.specs.Closing.{OutcomeOf, SessionOutcome}
 use Rattle.np_plug.proofs.Exchanges.{waits-at, ends-at, refuses-at, total-is, all-taken}

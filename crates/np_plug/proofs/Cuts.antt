@@ -9,10 +9,10 @@ use Rattle.np_plug_end.specs.PlugEnd.{PlugEndState, StandsFor}
 use Rattle.np_plug_end.specs.declared.plug_end.PlugState.{PlugState}
 use Rattle.np_prefix.specs.PluginAlone.{PluginComesTo}
 use Rattle.np_ending.specs.declared.ending.Ending.{Ending}
-use Rattle.np_plug.specs.Session.{Exchanged, BeginsWith, Interrupted, Told}
+use Rattle.np_plug.specs.Session.{Exchanged, Interrupted, Told}
 use Rattle.np_ending.specs.PeerCauses.{TookPart, ReadCut, HasReason}
 use Rattle.np_plug.specs.Live.{Live, Ran, RanCut, Turned, TurnCut}
-use Rattle.np_ending.specs.Causes.{AddsPart}
+use Rattle.np_ending.specs.Causes.{AddsPart, BeginsWith}
 use Rattle.np_ending.specs.Status.{ending_line}
 use Rattle.np_plug.specs.Closing.{CutShort}
 use Rattle.np_plug.proofs.Closings.{starts-going, outcome}

@@ -1,10 +1,9 @@
 -- From a plug-in that was cut short alone to the one process.
-use Rattle.std.proofs.Common.{◌≡◌, ℕ, ◌≤◌, List, [], ◌∷◌, ◌++◌, length, ◌⊎◌, inl, inr, ⊎_elim, Option, Some, None, refl, sym, ap, subst, ◌∙◌, append_assoc}
-use Rattle.np_model.specs.declared.message.Message.{Message}
+use Rattle.std.proofs.Common.{◌≡◌, ℕ, ◌≤◌, List, ◌++◌, length, ◌⊎◌, inl, inr, ⊎_elim, Option, Some, None, subst}
 use Rattle.np_model.specs.declared.script.Page.{Page}
 use Rattle.np_model.specs.declared.script.Plugin.{Plugin}
 use Rattle.np_model.specs.Script.{IsWellFormed}
-use Rattle.np_model.specs.Encoding.{encoding, encodings}
+use Rattle.np_model.specs.Encoding.{encodings}
 use Rattle.np_model.specs.PluginRun.{IsPageText}
 use Rattle.np_ports.specs.Peer.{Known}
 use Rattle.np_ports.specs.Files.{Contents}
@@ -13,10 +12,11 @@ use Rattle.np_prefix.specs.PluginAlone.{PluginComesTo}
 use Rattle.np_prefix.specs.PluginPrefix.{PluginWaitsLaw, PluginEndsLaw, PluginBeginsLaw, PluginComesToRestLaw, PluginNeverRefusesLaw, PageFewBytesLaw}
 use Rattle.np_ending.specs.declared.ending.Ending.{Ending}
 use Rattle.np_ending.specs.declared.ending.Ending.TheVariants as endings
-use Rattle.np_plug.specs.Session.{Exchanged, BeginsWith, Interrupted}
+use Rattle.np_plug.specs.Session.{Exchanged, Interrupted}
 use Rattle.np_plug.specs.Closing.{OutcomeOf, CutShort}
 use Rattle.np_plug.specs.Plug.{script_word, OfScript, RunCut, CutWords}
 use Rattle.np_plug.specs.Main.{PluginDone, PluginLeft, PluginBroken, PluginInterrupted, PluginCut, ForEachPage}
+use Rattle.np_ending.proofs.Parts.{begins-then, messages-begin}
 use Rattle.np_plug.proofs.Follows.{exchange-follows, same-given, done-follows, left-follows, broken-follows, never-refused}
 
 -- the laws that are used
@@ -28,17 +28,6 @@ pub record RunLaws : Type 0 where
   pub rests : PluginComesToRestLaw
   pub never : PluginNeverRefusesLaw
   pub few : PageFewBytesLaw
-
-encodings-append : (a b : List Message) → encodings (a ++ b) ≡ encodings a ++ encodings b
-encodings-append [] b = refl
-encodings-append (m ∷ a) b = ap (λ (l : List ℕ). encoding m ++ l) (encodings-append a b) ∙ sym (append_assoc (encoding m) (encodings a) (encodings b))
-
--- more messages behind these
-messages-begin : (all few more : List Message) → all ≡ few ++ more → BeginsWith (encodings all) (encodings few)
-messages-begin all few more is = record { rest = encodings more; parts = ap encodings is ∙ encodings-append few more }
-
-begins-then : (a b c : List ℕ) → BeginsWith a b → BeginsWith b c → BeginsWith a c
-begins-then a b c f g = record { rest = g.rest ++ f.rest; parts = f.parts ∙ ap (λ (l : List ℕ). l ++ f.rest) g.parts ∙ append_assoc c g.rest f.rest }
 
 interrupted-follows : RunLaws → (page : Page) (plugin : Plugin) (old : Known) (first : List ℕ) (new : Known) (sink given : List ℕ) → Interrupted plugin old first new sink → IsWellFormed page → new.given ≡ old.given ++ given → IsPageText page plugin given → PluginInterrupted page plugin old first new sink given
 interrupted-follows laws page plugin old first new sink given c w e t =

@@ -1,13 +1,10 @@
 -- What a run did by the time that it was cut short, from the words on.
-use Rattle.std.proofs.Common.{◌≡◌, ℕ, List, [], ◌++◌, inl, inr, Option, Some, None, refl, sym, ◌∙◌, append-nil, subst, Err}
+use Rattle.std.proofs.Common.{◌≡◌, ℕ, List, [], ◌++◌, inl, inr, Option, Some, None, refl, sym, ◌∙◌, append-nil}
 use Rattle.np_model.specs.declared.script.Plugin.{Plugin}
 use Rattle.np_model.specs.PluginScript.{plugin_of}
 use Rattle.np_model.specs.Journal.{end_line}
 use Rattle.np_ports.specs.Peer.{Known}
 use Rattle.np_ports.specs.Files.{Contents}
-use Rattle.np_ports.specs.Causes.{Rose, FailedOnly, HasCause}
-use Rattle.np_ports.specs.declared.error.PortError.{PortError}
-use Rattle.np_ports.specs.declared.error.PortError.TheVariants as ports
 use Rattle.np_ending.specs.Causes.{AddsPart}
 use Rattle.np_plug.specs.Session.{Told}
 use Rattle.np_plug.specs.Plug.{IsDueEarly, RunCut}
@@ -26,10 +23,6 @@ pub early-cut : (outcome : Plugin → Known → List ℕ → Known → List ℕ 
 early-cut outcome name file_failed files known taken0 taken1 status due adds f old first told k o =
     let p = adds first o in
     (old, first ++ p.0, k, p.3, inl (record { status = status; line = p.0; due = inr (due f told); uncalled = refl; line_part = record { rest = p.1; parts = p.2 }; printed = refl }))
-
--- a call that failed has its cause
-pub failed-cause : {T : Type 0} (before now : ℕ) (e : PortError) → e ≡ ports.Failed → HasCause {T = T} before now (Err e) → Rose before now
-failed-cause {T} before now e is cause = subst (λ (x : PortError). FailedOnly {T = T} (Err x) (Rose before now)) is cause.failed
 
 pub due-file : (name : List ℕ) (file_failed : Type 0) (files : Option Contents) → file_failed → DueEarly name file_failed files 4
 due-file name file_failed files failed f told = inr (refl, failed)

@@ -1,6 +1,6 @@
 -- From the bytes of a file to its plug-in.
-use Rattle.std.proofs.Common.{◌≡◌, ℕ, ◌<◌, List, length, take, Bool, true, false, cond, Option, Some, None, Result, Ok, Err, refl, sym, ap, ◌∙◌, arith, inl, inr}
-use Rattle.std.specs.Prelude.{nat_lt, IfOk, OnErr}
+use Rattle.std.proofs.Common.{◌≡◌, ℕ, ◌<◌, List, length, take, Bool, true, false, cond, Option, Some, None, refl, sym, ap, ◌∙◌, arith, inl, inr}
+use Rattle.std.specs.Prelude.{nat_lt}
 use Rattle.std.proofs.lemmas.Bool.{cases_lt}
 use Rattle.std.proofs.lemmas.Bool.Decides.{nat_tests}
 use Rattle.std.proofs.lemmas.List.{take_all, length-take-le}
@@ -8,7 +8,6 @@ use Rattle.np_model.specs.declared.script.Plugin.{Plugin}
 use Rattle.np_model.specs.PluginScript.{plugin_of, plugin_in}
 use Rattle.np_ports.specs.Peer.{Known}
 use Rattle.np_ports.specs.Files.{Contents}
-use Rattle.np_ending.specs.declared.stop.Stop.{Stop}
 use Rattle.np_plug.specs.Plug.{RunsPlugin, IsNoPlugin, OnlyNoPlugin}
 use Rattle.np_plug.specs.Closing.{SessionOutcome}
 
@@ -50,17 +49,3 @@ pub runs : (name : List ℕ) (files0 files1 : Option Contents) (bytes seen : Lis
 runs name files0 files1 bytes seen plugin known0 known1 taken0 taken1 status read same some outcome is f old first told k o =
     let there : plugin_of (f name) ≡ Some plugin = sym (plugin-is files0 files1 name bytes seen f read same told) ∙ some in
     (plugin, outcome.0, there, outcome.1, outcome.2 old first k o)
-
--- what holds of each status
-pub on-each : (result : Result ℕ Stop) (P : ℕ → Type 0) → ((status : ℕ) → P status) → IfOk result P
-on-each (Ok status) P f = f status
-on-each (Err stop) P f = tt
-
-pub if-then : (result : Result ℕ Stop) (P Q : ℕ → Type 0) → ((status : ℕ) → P status → Q status) → IfOk result P → IfOk result Q
-if-then (Ok status) P Q f h = f status h
-if-then (Err stop) P Q f h = tt
-
--- what holds of a call that was cut short
-pub on-stop : {T : Type 0} (result : Result T Stop) (P : Type 0) → P → OnErr result P
-on-stop (Ok x) P p = tt
-on-stop (Err stop) P p = p

@@ -7,8 +7,9 @@ use Rattle.np_ending.specs.declared.ending.Ending.{Ending}
 use Rattle.np_ending.specs.declared.ending.Ending.TheVariants.{Done, Unsent, Ended, Failed, Refused}
 use Rattle.np_ending.specs.PeerCauses.{HasReason}
 use Rattle.np_ending.specs.Status.{status_of}
-use Rattle.np_plug.specs.Session.{BeginsWith, Completed, PeerEnded, PipeFailed, PeerRefused, Interrupted}
+use Rattle.np_plug.specs.Session.{Completed, PeerEnded, PipeFailed, PeerRefused, Interrupted}
 use Rattle.np_plug.specs.Live.{Turned}
+use Rattle.np_ending.specs.Causes.{BeginsWith}
 
 -- the exchange came to its ending
 abbrev pub Talked : Option Known → Option Known → Option (List ℕ) → Option (List ℕ) → PlugEndState → PlugEndState → Ending → Type 0

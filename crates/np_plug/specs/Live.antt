@@ -11,8 +11,8 @@ use Rattle.np_plug_end.specs.declared.plug_end.PlugState.{PlugState}
 use Rattle.np_plug_end.specs.declared.plug_end.PlugState.TheVariants.{Waiting, Finished, Refused}
 use Rattle.np_ending.specs.declared.ending.Ending.{Ending}
 use Rattle.np_ending.specs.declared.ending.Ending.TheVariants as endings
-use Rattle.np_ending.specs.Causes.{Adds, AddsPart}
-use Rattle.np_plug.specs.Session.{Exchanged, BeginsWith, Interrupted}
+use Rattle.np_ending.specs.Causes.{Adds, AddsPart, BeginsWith}
+use Rattle.np_plug.specs.Session.{Exchanged, Interrupted}
 use Rattle.np_plug.specs.Flow.{Printed, HeardBytes, HeardEnd, HeardFault}
 
 -- An exchange that began with old and first stands at now and sink: the peer took `taken` of the end's messages, of which `sent` was cut off.

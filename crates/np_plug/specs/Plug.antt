@@ -10,9 +10,8 @@ use Rattle.np_ports.specs.declared.file_call.FileCall.{FileCall}
 use Rattle.np_ports.specs.declared.file_call.FileCall.TheVariants.{Read}
 use Rattle.np_prefix.specs.PluginAlone.{PluginRefusesNothing}
 use Rattle.np_ending.specs.declared.ending.Ending.{Ending}
-use Rattle.np_ending.specs.Causes.{Adds}
+use Rattle.np_ending.specs.Causes.{Adds, BeginsWith}
 use Rattle.np_ending.specs.Status.{status_of, IsRunStatus}
-use Rattle.np_plug.specs.Session.{BeginsWith}
 use Rattle.np_plug.specs.Closing.{OutcomeOf}
 
 abbrev pub texts : List (String Global) → List (List ℕ)

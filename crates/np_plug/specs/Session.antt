@@ -9,6 +9,7 @@ use Rattle.np_model.specs.PluginPlan.{PluginControl}
 use Rattle.np_model.specs.Journal.{end_line, refused_line}
 use Rattle.np_ports.specs.Peer.{Known}
 use Rattle.np_prefix.specs.PluginAlone.{PluginComesTo, PluginWaitsAt, PluginEndsAt, PluginRefusesAt}
+use Rattle.np_ending.specs.Causes.{BeginsWith}
 
 -- At this read of a session in which the plug-in got and sent these bytes in all, the plug-in waited for a message that wasn't whole, and the peer had taken all its messages so far.
 pub record ReadsWell (plugin : Plugin) (old : Known) (got sent : List ℕ) (r : ℕ × ℕ) : Type 0 where
@@ -26,11 +27,6 @@ pub record Exchanged (plugin : Plugin) (old new : Known) (got sent : List ℕ) :
   pub starts : new.starts ≡ old.starts
   pub reads_are : new.reads ≡ old.reads ++ reads
   pub each : AllByRecursion (ReadsWell plugin old got sent) reads
-
--- a list begins with another
-pub record BeginsWith (all front : List ℕ) : Type 0 where
-  pub rest : List ℕ
-  pub parts : all ≡ front ++ rest
 
 -- Status 0: Shutdown was answered, and the answer was taken.
 pub record Completed (plugin : Plugin) (old : Known) (first : List ℕ) (new : Known) (sink : List ℕ) : Type 0 where

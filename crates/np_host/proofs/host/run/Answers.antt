@@ -1,11 +1,11 @@
 use Rattle.std.proofs.Common.{Result, Err, ap}
 use Rattle.np_script.specs.declared.error.ParseError.{ParseError}
 use Rattle.np_model.specs.declared.script.Page.{Page}
-use Rattle.np_host.proofs.Pages.{no-page, only-page, runs, ran-not, on-each, if-then}
+use Rattle.np_host.proofs.Pages.{no-page, only-page, runs, ran-not}
 use Rattle.std.proofs.lemmas.Result.{on_err_weaker}
 use Rattle.np_host.specs.Words.{texts}
-use Rattle.np_host.proofs.ClosingCuts.{on-stop}
-use Rattle.np_host.proofs.PageCuts.{nothing-cut, early-cut, failed-cause, due-file, due-script, due-start, unstarted, page-cut}
+use Rattle.np_host.proofs.PageCuts.{nothing-cut, early-cut, due-file, due-script, due-start, unstarted, page-cut}
+use Rattle.np_ending.proofs.Stops.{on-each, if-then, on-stop, failed-cause}
 use Rattle.np_host.proofs.host.run.Goals as goal
 
 abbrev failed : ParseError → Result Page ParseError

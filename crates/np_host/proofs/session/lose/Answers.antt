@@ -1,5 +1,6 @@
 use Rattle.np_host.proofs.Closings.{loses}
-use Rattle.np_host.proofs.ClosingCuts.{loses-part, on-stop}
+use Rattle.np_host.proofs.ClosingCuts.{loses-part}
+use Rattle.np_ending.proofs.Stops.{on-stop}
 use Rattle.np_host.proofs.session.lose.Goals as goal
 
 pub returns-clause-lost : goal.returns-clause-lost

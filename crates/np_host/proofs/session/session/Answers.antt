@@ -1,7 +1,7 @@
 use Rattle.np_host.proofs.Closings.{session-outcome, is-run-status}
 use Rattle.np_ending.proofs.Reasons.{ending-reason}
 use Rattle.np_host.proofs.Cuts.{talk-cut, close-cut}
-use Rattle.np_host.proofs.ClosingCuts.{on-stop}
+use Rattle.np_ending.proofs.Stops.{on-stop}
 use Rattle.np_host.proofs.session.session.Goals as goal
 
 pub returns-clause-outcome : goal.returns-clause-outcome

@@ -3,7 +3,7 @@ use Rattle.np_ending.specs.declared.ending.Ending.{Ending}
 use Rattle.np_host.specs.Live.{Turned}
 use Rattle.np_host.proofs.Closings.{turned-then}
 use Rattle.np_host.proofs.Cuts.{turned-cut}
-use Rattle.np_host.proofs.ClosingCuts.{on-stop}
+use Rattle.np_ending.proofs.Stops.{on-stop}
 use Rattle.np_host.proofs.session.talk.Goals as goal
 
 pub returns-in-Some-clause-talked : goal.returns-in-Some-clause-talked

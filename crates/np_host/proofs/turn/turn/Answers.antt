@@ -2,7 +2,7 @@ use Rattle.std.proofs.Common.{rules, ◌≡◌, ◌<◌, ◌∙◌, ◌^◌, ari
 use Rattle.np_host_end.specs.HostEnd.{total_of}
 use Rattle.np_host.proofs.Exchanges.{going-ran, ending-refused, turned-done, turned-unsent, turned-failed, listening, turned-full, turned-heard}
 use Rattle.np_host.proofs.Cuts.{run-cut, send-cut, read-cut}
-use Rattle.np_host.proofs.ClosingCuts.{on-stop}
+use Rattle.np_ending.proofs.Stops.{on-stop}
 use Rattle.np_host.proofs.turn.turn.Goals as goal
 
 pub returns-in-Refused-clause-turned : goal.returns-in-Refused-clause-turned

@@ -1,7 +1,8 @@
 use Rattle.std.proofs.Common.{refl}
 use Rattle.std.proofs.lemmas.Result.{on_err_weaker}
-use Rattle.np_plug.proofs.Scripts.{no-plugin, only-plugin, runs, on-each, on-stop}
-use Rattle.np_plug.proofs.ScriptCuts.{nothing-cut, early-cut, failed-cause, due-file, due-script, plugin-cut}
+use Rattle.np_plug.proofs.Scripts.{no-plugin, only-plugin, runs}
+use Rattle.np_plug.proofs.ScriptCuts.{nothing-cut, early-cut, due-file, due-script, plugin-cut}
+use Rattle.np_ending.proofs.Stops.{on-each, on-stop, failed-cause}
 use Rattle.np_plug.proofs.plug.run.Goals as goal
 
 pub returns-in-Err-clause-script : goal.returns-in-Err-clause-script

@@ -1,7 +1,7 @@
 use Rattle.np_plug.proofs.Closings.{session-outcome, is-run-status}
 use Rattle.np_ending.proofs.Reasons.{ending-reason}
 use Rattle.np_plug.proofs.Cuts.{talk-cut, close-cut}
-use Rattle.np_plug.proofs.Scripts.{on-stop}
+use Rattle.np_ending.proofs.Stops.{on-stop}
 use Rattle.np_plug.proofs.session.session.Goals as goal
 
 pub returns-clause-outcome : goal.returns-clause-outcome
