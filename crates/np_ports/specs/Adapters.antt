@@ -1,10 +1,26 @@
 -- What the adapters keep of the platform's calls.
-use Rattle.std.specs.Prelude.{ℕ, Bool}
+use Rattle.std.specs.Prelude.{◌≡◌, ℕ, Bool, is_some, Result, Ok, Err}
+use Rattle.std.specs.declared.io.Error.{Error}
+use Rattle.std.specs.declared.io.ErrorKind.TheVariants.{NotConnected}
+use Rattle.std.specs.IoError.{error_kind}
 use Rattle.np_ports.specs.declared.stdout_sink.StdoutSink.{StdoutSink}
 use Rattle.np_ports.specs.declared.child_peer.ChildPeer.{ChildPeer}
 use Rattle.np_ports.specs.declared.host_files.HostFiles.{HostFiles}
 use Rattle.np_ports.specs.declared.std_peer.StdPeer.{StdPeer}
 use Rattle.np_ports.specs.declared.file_sink.FileSink.{FileSink}
+
+-- whether a start was done
+abbrev pub child_started : {R S I O E : Type 0} → ChildPeer R S I O E → Bool
+child_started p = p.started
+
+-- whether its program was started and not closed
+abbrev pub child_is_open : {R S I O E : Type 0} → ChildPeer R S I O E → Bool
+child_is_open p = is_some p.child
+
+-- there are no pipes, and this isn't want of memory
+abbrev pub IsShut : Result ℕ Error → Type 0
+IsShut (Ok n) = ⊥
+IsShut (Err e) = error_kind e ≡ NotConnected
 
 -- whether a read answered the end
 abbrev pub child_ended : {R S I O E : Type 0} → ChildPeer R S I O E → Bool

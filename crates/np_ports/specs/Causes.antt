@@ -13,6 +13,12 @@ FailedOnly (Err Failed) P = P
 FailedOnly (Err NoMemory) P = Unit {0}
 FailedOnly (Ok x) P = Unit {0}
 
+-- a count of faults is one higher after a call that failed, up to 2^64 - 1, and else as it was
+abbrev pub counted : {T : Type 0} → ℕ → Result T PortError → ℕ
+counted n (Ok x) = n
+counted n (Err Failed) = min (n + 1) (2 ^ 64 - 1)
+counted n (Err NoMemory) = n
+
 -- a count doesn't fall, and Failed comes only where it rose
 pub record HasCause {T : Type 0} (before now : ℕ) (result : Result T PortError) : Type 0 where
   pub later : before ≤ now

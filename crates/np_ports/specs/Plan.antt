@@ -32,9 +32,3 @@ FailsWhere true (Ok x) = ⊥
 FailsWhere true (Err Failed) = Unit {0}
 FailsWhere false (Ok x) = Unit {0}
 FailsWhere false (Err Failed) = ⊥
-
--- a count of faults is one higher after a call that failed, up to 2^64 - 1, and else as it was
-abbrev pub counted : {T : Type 0} → ℕ → Result T PortError → ℕ
-counted n (Ok x) = n
-counted n (Err Failed) = min (n + 1) (2 ^ 64 - 1)
-counted n (Err NoMemory) = n

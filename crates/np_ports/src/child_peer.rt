@@ -1,7 +1,10 @@
 //! A peer that is a program of the platform.
 
-ghost use Rattle.std.specs.Prelude.{◌≡◌, ◌≤◌, false, None, length, IfOk};
-ghost use Rattle.np_ports.specs.Adapters.{child_ended, child_start_faults, child_pipe_faults};
+ghost use Rattle.std.specs.Prelude.{◌≡◌, ◌≤◌, ◌<◌, true, false, None, Err, is_some, length, IfOk, OnOk, OnErr};
+ghost use Rattle.np_ports.specs.declared.error.PortError.TheVariants.{Failed};
+ghost use Rattle.np_ports.specs.Causes.{HasCause, counted};
+ghost use Rattle.np_ports.specs.Peer.{EndsAt};
+ghost use Rattle.np_ports.specs.Adapters.{IsShut, child_started, child_is_open, child_ended, child_start_faults, child_pipe_faults};
 
 use crate::faults::{fail, refuse};
 use crate::{Peer, PortError};
@@ -25,6 +28,7 @@ pub struct ChildPeer<R: Processes + Clock + Drop> {
     runtime: R,
     alloc: Global,
     child: Option<Child<R::Started>>,
+    started: bool,
     ended: bool,
     start_faults: u64,
     pipe_faults: u64,
@@ -33,6 +37,8 @@ pub struct ChildPeer<R: Processes + Clock + Drop> {
 impl<R: Processes + Clock + Drop> ChildPeer<R> {
     /// A peer that isn't started yet.
     pub fn new(runtime: R, alloc: Global) -> ChildPeer<R>
+        ensures started { child_started result ≡ false }
+        ensures open { child_is_open result ≡ false }
         ensures ended { child_ended result ≡ false }
         ensures start_faults { child_start_faults result ≡ 0 }
         ensures pipe_faults { child_pipe_faults result ≡ 0 }
@@ -41,6 +47,7 @@ impl<R: Processes + Clock + Drop> ChildPeer<R> {
             runtime,
             alloc,
             child: None,
+            started: false,
             ended: false,
             start_faults: 0,
             pipe_faults: 0,
@@ -48,8 +55,11 @@ impl<R: Processes + Clock + Drop> ChildPeer<R> {
     }
 
     /// Closes both pipes, and gives the program two seconds to end; a program that takes longer is left
-    /// running, and answers `None`. Each later call but of the end fails.
+    /// running, and answers `None`. Each later call fails, but for reads where one has answered the end.
     pub fn close(&mut self) -> Option<ExitStatus>
+        ensures closed { child_is_open self.new ≡ false }
+        ensures idle { child_is_open self.old ≡ false → result ≡ None }
+        ensures started { child_started self.new ≡ child_started self.old }
         ensures ended { child_ended self.new ≡ child_ended self.old }
         ensures start_faults { child_start_faults self.new ≡ child_start_faults self.old }
         ensures pipe_faults { child_pipe_faults self.new ≡ child_pipe_faults self.old }
@@ -81,7 +91,9 @@ impl<R: Processes + Clock + Drop> ChildPeer<R> {
 }
 
 fn read_output<P: OpenProcess>(child: &mut Option<Child<P>>, buf: &mut [u8]) -> io::Result<usize>
-    ensures { IfOk result (λ n. n ≤ length buf.new) }
+    ensures bound { IfOk result (λ n. n ≤ length buf.new) }
+    ensures shut { is_some child.old ≡ false → IsShut result }
+    ensures open { is_some child.new ≡ is_some child.old }
 {
     if let Some(child) = child {
         if let Some(output) = &mut child.stdout {
@@ -92,7 +104,9 @@ fn read_output<P: OpenProcess>(child: &mut Option<Child<P>>, buf: &mut [u8]) -> 
 }
 
 fn write_input<P: OpenProcess>(child: &mut Option<Child<P>>, bytes: &[u8]) -> io::Result<usize>
-    ensures { IfOk result (λ n. n ≤ length bytes.now) }
+    ensures bound { IfOk result (λ n. n ≤ length bytes.now) }
+    ensures shut { is_some child.old ≡ false → IsShut result }
+    ensures open { is_some child.new ≡ is_some child.old }
 {
     if let Some(child) = child {
         if let Some(input) = &mut child.stdin {
@@ -111,20 +125,45 @@ impl<R: Processes + Clock + Drop> Peer for ChildPeer<R> {
 
     ghost pipe_faults = { λ p. child_pipe_faults p };
 
-    fn start(&mut self, words: &[String]) -> Result<(), PortError> {
-        if self.child.is_some() {
+    fn start(&mut self, words: &[String]) -> Result<(), PortError>
+        requires { 0 < length words.now }
+        ensures cause { HasCause (child_start_faults self.old) (child_start_faults self.new) result }
+        ensures count { child_start_faults self.new ≡ counted (child_start_faults self.old) result }
+        ensures pipe_faults { child_pipe_faults self.new ≡ child_pipe_faults self.old }
+        ensures ended { child_ended self.new ≡ child_ended self.old }
+
+        // It is started once.
+        ensures open { OnOk result (child_is_open self.new ≡ true) }
+        ensures started { OnOk result (child_started self.new ≡ true) }
+        ensures again { child_started self.old ≡ true → result ≡ Err Failed }
+        ensures kept { OnErr result (child_started self.new ≡ child_started self.old) }
+        ensures as_before { OnErr result (child_is_open self.new ≡ child_is_open self.old) }
+    {
+        if self.started {
             return fail(&mut self.start_faults);
         }
         match self.spawn(words) {
             Ok(child) => {
                 self.child = Some(child);
+                self.started = true;
                 Ok(())
             }
             Err(e) => refuse(&mut self.start_faults, e),
         }
     }
 
-    fn read(&mut self, buf: &mut [u8]) -> Result<usize, PortError> {
+    fn read(&mut self, buf: &mut [u8]) -> Result<usize, PortError>
+        requires { 0 < length buf.old }
+        ensures bound { IfOk result (λ n. n ≤ length buf.new) }
+        ensures cause { HasCause (child_pipe_faults self.old) (child_pipe_faults self.new) result }
+        ensures count { child_pipe_faults self.new ≡ counted (child_pipe_faults self.old) result }
+        ensures start_faults { child_start_faults self.new ≡ child_start_faults self.old }
+        ensures ended { EndsAt (child_ended self.old) (child_ended self.new) result }
+
+        ensures shut { child_is_open self.old ≡ false → child_ended self.old ≡ false → result ≡ Err Failed }
+        ensures open { child_is_open self.new ≡ child_is_open self.old }
+        ensures started { child_started self.new ≡ child_started self.old }
+    {
         if self.ended {
             return Ok(0);
         }
@@ -137,7 +176,18 @@ impl<R: Processes + Clock + Drop> Peer for ChildPeer<R> {
         }
     }
 
-    fn write(&mut self, bytes: &[u8]) -> Result<usize, PortError> {
+    fn write(&mut self, bytes: &[u8]) -> Result<usize, PortError>
+        requires { 0 < length bytes.now }
+        ensures bound { IfOk result (λ n. (0 < n) × (n ≤ length bytes.now)) }
+        ensures cause { HasCause (child_pipe_faults self.old) (child_pipe_faults self.new) result }
+        ensures count { child_pipe_faults self.new ≡ counted (child_pipe_faults self.old) result }
+        ensures start_faults { child_start_faults self.new ≡ child_start_faults self.old }
+        ensures ended { child_ended self.new ≡ child_ended self.old }
+
+        ensures shut { child_is_open self.old ≡ false → result ≡ Err Failed }
+        ensures open { child_is_open self.new ≡ child_is_open self.old }
+        ensures started { child_started self.new ≡ child_started self.old }
+    {
         match write_input(&mut self.child, bytes) {
             Ok(0) => fail(&mut self.pipe_faults),
             Ok(n) => Ok(n),

@@ -1,9 +1,9 @@
 //! How the adapters answer errors of the platform.
 
-ghost use Rattle.std.specs.Prelude.{◌≡◌, Err, IsErr};
+ghost use Rattle.std.specs.Prelude.{◌≡◌, ◌↔◌, Err, IsErr, IsErrOf};
+ghost use Rattle.std.specs.IoError.{error_kind};
 ghost use Rattle.np_ports.specs.declared.error.PortError.TheVariants.{Failed};
-ghost use Rattle.np_ports.specs.Causes.{HasCause};
-ghost use Rattle.np_ports.specs.Plan.{counted};
+ghost use Rattle.np_ports.specs.Causes.{HasCause, counted};
 
 use crate::PortError;
 use std::io::{Error, ErrorKind};
@@ -21,6 +21,7 @@ pub(crate) fn fail<T>(faults: &mut u64) -> Result<T, PortError>
 // Answers an error of the platform: want of memory where it is that, and else a failure, which is counted.
 pub(crate) fn refuse<T>(faults: &mut u64, error: Error) -> Result<T, PortError>
     ensures refused { IsErr result }
+    ensures memory { IsErrOf result PortError.NoMemory ↔ error_kind error ≡ ErrorKind.OutOfMemory }
     ensures cause { HasCause faults.old faults.new result }
     ensures count { faults.new ≡ counted faults.old result }
 {

@@ -1,11 +1,11 @@
 //! Files in memory of which chosen calls fail.
 
-ghost use Rattle.std.specs.Prelude.{◌≡◌, ◌<◌, ◌≤◌, ◌||◌, [], ◌++◌, ◌∷◌, Some, length, drop, min, IfOk, OnOk, OnErr};
+ghost use Rattle.std.specs.Prelude.{◌≡◌, ◌<◌, ◌≤◌, ◌||◌, [], ◌++◌, ◌∷◌, Some, false, length, drop, min, IfOk, IsOk, OnOk, OnErr};
 ghost use Rattle.np_ports.specs.declared.file_call.FileCall.{FileCall};
-ghost use Rattle.np_ports.specs.Causes.{HasCause};
+ghost use Rattle.np_ports.specs.Causes.{HasCause, counted};
 ghost use Rattle.np_ports.specs.Files.{ReadsFile, PutsFile, NotesFailure};
 ghost use Rattle.np_ports.specs.Memory.{mem_entries, mem_failures, mem_files_plan, mem_files_faults, content_of, found, is_missing, failures_of};
-ghost use Rattle.np_ports.specs.Plan.{plan_from, fails_next, after_call, FailsWhere, counted};
+ghost use Rattle.np_ports.specs.Plan.{plan_from, fails_next, after_call, FailsWhere};
 
 use crate::bytes::copy_from;
 use crate::call_plan::CallPlan;
@@ -73,6 +73,8 @@ impl Files for MemFiles {
         ensures cause { HasCause (mem_files_faults self.old) (mem_files_faults self.new) result }
 
         ensures fails { FailsWhere (fails_next (mem_files_plan self.old) || is_missing (found (mem_entries self.old) name.now)) result }
+        // A read that isn't to fail takes no memory.
+        ensures done { fails_next (mem_files_plan self.old) ≡ false → is_missing (found (mem_entries self.old) name.now) ≡ false → IsOk result }
         ensures count { mem_files_faults self.new ≡ counted (mem_files_faults self.old) result }
         ensures next { mem_files_plan self.new ≡ after_call (mem_files_plan self.old) }
         ensures given { IfOk result (λ n. n ≡ min (length (drop at (content_of (mem_entries self.old) name.now))) (length buf.old)) }

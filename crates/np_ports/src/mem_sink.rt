@@ -1,9 +1,10 @@
 //! A sink in memory of which chosen writes fail.
 
-ghost use Rattle.std.specs.Prelude.{◌≡◌, ◌<◌, ◌≤◌, [], Some, length, IfOk};
-ghost use Rattle.np_ports.specs.Causes.{HasCause};
+ghost use Rattle.std.specs.Prelude.{◌≡◌, ◌<◌, ◌≤◌, [], Some, true, length, Err, IfOk};
+ghost use Rattle.np_ports.specs.declared.error.PortError.TheVariants.{Failed};
+ghost use Rattle.np_ports.specs.Causes.{HasCause, counted};
 ghost use Rattle.np_ports.specs.Memory.{mem_bytes, mem_sink_plan, mem_sink_faults};
-ghost use Rattle.np_ports.specs.Plan.{plan_from, fails_next, after_call, FailsWhere, counted};
+ghost use Rattle.np_ports.specs.Plan.{plan_from, fails_next, after_call, FailsWhere};
 ghost use Rattle.np_ports.specs.Sink.{Takes};
 
 use crate::call_plan::CallPlan;
@@ -53,6 +54,8 @@ impl Sink for MemSink {
         ensures cause { HasCause (mem_sink_faults self.old) (mem_sink_faults self.new) result }
 
         ensures fails { FailsWhere (fails_next (mem_sink_plan self.old)) result }
+        // To fail takes no memory.
+        ensures refused { fails_next (mem_sink_plan self.old) ≡ true → result ≡ Err Failed }
         ensures count { mem_sink_faults self.new ≡ counted (mem_sink_faults self.old) result }
         ensures next { mem_sink_plan self.new ≡ after_call (mem_sink_plan self.old) }
         ensures all { IfOk result (λ n. n ≡ length bytes.now) }

@@ -56,11 +56,12 @@ impl ScriptedPeer {
 }
 
 impl Peer for ScriptedPeer {
-    ghost use Rattle.std.specs.Prelude.{◌≡◌, ◌<◌, ◌≤◌, Some, length, map, string_bytes, IfOk};
-    ghost use Rattle.np_ports.specs.Causes.{HasCause};
+    ghost use Rattle.std.specs.Prelude.{◌≡◌, ◌<◌, ◌≤◌, Some, true, length, map, string_bytes, Err, IfOk};
+    ghost use Rattle.np_ports.specs.declared.error.PortError.TheVariants.{Failed};
+    ghost use Rattle.np_ports.specs.Causes.{HasCause, counted};
     ghost use Rattle.np_ports.specs.Memory.{scripted_known, scripted_ended, scripted_piece, scripted_plan, scripted_start_faults, scripted_pipe_faults, next_count};
     ghost use Rattle.np_ports.specs.Peer.{Starts, Reads, Writes, EndsAt};
-    ghost use Rattle.np_ports.specs.Plan.{fails_next, after_call, FailsWhere, counted};
+    ghost use Rattle.np_ports.specs.Plan.{fails_next, after_call, FailsWhere};
 
     ghost known = { λ p. Some (scripted_known p) };
 
@@ -122,6 +123,8 @@ impl Peer for ScriptedPeer {
         ensures ended { scripted_ended self.new ≡ scripted_ended self.old }
 
         ensures fails { FailsWhere (fails_next (scripted_plan self.old)) result }
+        // To fail takes no memory.
+        ensures refused { fails_next (scripted_plan self.old) ≡ true → result ≡ Err Failed }
         ensures count { scripted_pipe_faults self.new ≡ counted (scripted_pipe_faults self.old) result }
         ensures next { scripted_plan self.new ≡ after_call (scripted_plan self.old) }
         ensures all { IfOk result (λ n. n ≡ length bytes.now) }

@@ -1,6 +1,8 @@
 //! A peer at the other end of standard input and output.
 
-ghost use Rattle.std.specs.Prelude.{◌≡◌, false, None};
+ghost use Rattle.std.specs.Prelude.{◌≡◌, false, None, Err};
+ghost use Rattle.np_ports.specs.declared.error.PortError.TheVariants.{Failed};
+ghost use Rattle.np_ports.specs.Causes.{HasCause, counted};
 ghost use Rattle.np_ports.specs.Adapters.{std_ended, std_start_faults, std_pipe_faults};
 
 use crate::faults::{fail, refuse};
@@ -45,7 +47,13 @@ impl Peer for StdPeer {
 
     ghost pipe_faults = { λ p. std_pipe_faults p };
 
-    fn start(&mut self, _words: &[String]) -> Result<(), PortError> {
+    fn start(&mut self, _words: &[String]) -> Result<(), PortError>
+        ensures refused { result ≡ Err Failed }
+        ensures cause { HasCause (std_start_faults self.old) (std_start_faults self.new) result }
+        ensures count { std_start_faults self.new ≡ counted (std_start_faults self.old) result }
+        ensures pipe_faults { std_pipe_faults self.new ≡ std_pipe_faults self.old }
+        ensures ended { std_ended self.new ≡ std_ended self.old }
+    {
         fail(&mut self.start_faults)
     }
 

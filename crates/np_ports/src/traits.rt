@@ -2,7 +2,7 @@
 
 ghost use Rattle.std.specs.Prelude.{◌≡◌, ◌<◌, ◌≤◌, ℕ, List, Bool, Option, length, map, IfOk, string_bytes};
 ghost use Rattle.np_ports.specs.declared.file_call.FileCall.{FileCall};
-ghost use Rattle.np_ports.specs.Causes.{HasCause};
+ghost use Rattle.np_ports.specs.Causes.{HasCause, counted};
 ghost use Rattle.np_ports.specs.Peer.{Known, Starts, Reads, Writes, EndsAt};
 ghost use Rattle.np_ports.specs.Files.{Contents, ReadsFile, PutsFile, NotesFailure};
 ghost use Rattle.np_ports.specs.Sink.{Takes};
@@ -10,7 +10,8 @@ ghost use Rattle.np_ports.specs.Sink.{Takes};
 use crate::PortError;
 
 /// The other program, at the two ends of a pair of pipes. It tells its calls where it can, and always whether
-/// a read has answered the end and its two counts of faults, one of `start`, one of `read` and `write`.
+/// a read has answered the end and its two counts of faults, one of `start`, one of `read` and `write`. A count
+/// of faults is one higher after each call of its kind that answered `Failed`, and else as it was.
 /// This project's own.
 pub trait Peer {
     ghost known: { Self → Option Known };
@@ -26,6 +27,7 @@ pub trait Peer {
         requires { 0 < length words.now }
         ensures known { Starts (known self.old) (known self.new) result (map (λ w. string_bytes w) words.now) }
         ensures cause { HasCause (start_faults self.old) (start_faults self.new) result }
+        ensures count { start_faults self.new ≡ counted (start_faults self.old) result }
         ensures pipe_faults { pipe_faults self.new ≡ pipe_faults self.old }
         ensures ended { has_ended self.new ≡ has_ended self.old };
 
@@ -35,6 +37,7 @@ pub trait Peer {
         ensures bound { IfOk result (λ n. n ≤ length buf.new) }
         ensures known { Reads (known self.old) (known self.new) result buf.new }
         ensures cause { HasCause (pipe_faults self.old) (pipe_faults self.new) result }
+        ensures count { pipe_faults self.new ≡ counted (pipe_faults self.old) result }
         ensures start_faults { start_faults self.new ≡ start_faults self.old }
         ensures ended { EndsAt (has_ended self.old) (has_ended self.new) result };
 
@@ -44,6 +47,7 @@ pub trait Peer {
         ensures bound { IfOk result (λ n. (0 < n) × (n ≤ length bytes.now)) }
         ensures known { Writes (known self.old) (known self.new) result bytes.now }
         ensures cause { HasCause (pipe_faults self.old) (pipe_faults self.new) result }
+        ensures count { pipe_faults self.new ≡ counted (pipe_faults self.old) result }
         ensures start_faults { start_faults self.new ≡ start_faults self.old }
         ensures ended { has_ended self.new ≡ has_ended self.old };
 }
@@ -63,13 +67,15 @@ pub trait Files {
         ensures bound { IfOk result (λ n. n ≤ length buf.new) }
         ensures contents { ReadsFile (contents self.old) (contents self.new) result name.now at buf.new }
         ensures failed_calls { NotesFailure (failed_calls self.old) (failed_calls self.new) result name.now FileCall.Read }
-        ensures cause { HasCause (faults self.old) (faults self.new) result };
+        ensures cause { HasCause (faults self.old) (faults self.new) result }
+        ensures count { faults self.new ≡ counted (faults self.old) result };
 
     /// Writes the whole file in place of an old one. After an error anything may stand under its name.
     fn put(&mut self, name: &str, bytes: &[u8]) -> Result<(), PortError>
         ensures contents { PutsFile (contents self.old) (contents self.new) result name.now bytes.now }
         ensures failed_calls { NotesFailure (failed_calls self.old) (failed_calls self.new) result name.now FileCall.Put }
-        ensures cause { HasCause (faults self.old) (faults self.new) result };
+        ensures cause { HasCause (faults self.old) (faults self.new) result }
+        ensures count { faults self.new ≡ counted (faults self.old) result };
 }
 
 /// Where bytes are printed. It tells the bytes that it took where it can, and always a count of faults.
@@ -84,5 +90,6 @@ pub trait Sink {
         requires { 0 < length bytes.now }
         ensures bound { IfOk result (λ n. (0 < n) × (n ≤ length bytes.now)) }
         ensures taken { Takes (taken self.old) (taken self.new) result bytes.now }
-        ensures cause { HasCause (faults self.old) (faults self.new) result };
+        ensures cause { HasCause (faults self.old) (faults self.new) result }
+        ensures count { faults self.new ≡ counted (faults self.old) result };
 }
