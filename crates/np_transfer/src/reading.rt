@@ -1,5 +1,5 @@
 ghost use Rattle.std.specs.Prelude.{◌≡◌, ◌≤◌, ◌<◌, length};
-ghost use Rattle.np_ports.specs.Causes.{HasCause};
+ghost use Rattle.np_ports.specs.Causes.{HasCause, counted};
 ghost use Rattle.np_transfer.specs.Transfer.{ReadsScript, NotesOnly};
 
 use np_ports::{Files, PortError};
@@ -13,6 +13,7 @@ pub fn read_script<F: Files>(alloc: Global, files: &mut F, name: &str) -> Result
     ensures contents { ReadsScript (F.contents files.old) (F.contents files.new) result name.now }
     ensures failed_calls { NotesOnly (F.failed_calls files.old) (F.failed_calls files.new) result name.now }
     ensures cause { HasCause (F.faults files.old) (F.faults files.new) result }
+    ensures count { F.faults files.new ≡ counted (F.faults files.old) result }
 {
     let mut bytes = Vec::new(alloc);
     let mut buf = [0u8; 4096];

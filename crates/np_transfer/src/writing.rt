@@ -1,5 +1,5 @@
 ghost use Rattle.std.specs.Prelude.{◌≡◌, ◌≤◌, ◌<◌, length};
-ghost use Rattle.np_ports.specs.Causes.{HasCause};
+ghost use Rattle.np_ports.specs.Causes.{HasCause, counted};
 ghost use Rattle.np_transfer.specs.Transfer.{Prints, Sends};
 
 use np_ports::{Peer, PortError, Sink};
@@ -8,6 +8,7 @@ use np_ports::{Peer, PortError, Sink};
 pub fn print_all<O: Sink>(out: &mut O, bytes: &[u8]) -> Result<(), PortError>
     ensures taken { Prints (O.taken out.old) (O.taken out.new) result bytes.now }
     ensures cause { HasCause (O.faults out.old) (O.faults out.new) result }
+    ensures count { O.faults out.new ≡ counted (O.faults out.old) result }
 {
     let mut rest = bytes;
     while !rest.is_empty() {
@@ -21,6 +22,7 @@ pub fn print_all<O: Sink>(out: &mut O, bytes: &[u8]) -> Result<(), PortError>
 pub fn send_all<P: Peer>(peer: &mut P, bytes: &[u8]) -> Result<(), PortError>
     ensures known { Sends (P.known peer.old) (P.known peer.new) result bytes.now }
     ensures cause { HasCause (P.pipe_faults peer.old) (P.pipe_faults peer.new) result }
+    ensures count { P.pipe_faults peer.new ≡ counted (P.pipe_faults peer.old) result }
     ensures start_faults { P.start_faults peer.new ≡ P.start_faults peer.old }
     ensures ended { P.has_ended peer.new ≡ P.has_ended peer.old }
 {

@@ -1,11 +1,11 @@
-use Rattle.std.proofs.Common.{arith}
+use Rattle.std.proofs.Common.{arith, ◌∙◌}
 use Rattle.std.proofs.lemmas.Grind.{common_steps}
 use Rattle.np_transfer.proofs.Pieces.{more_read, all_read, full_read, known_read, kept_read, no_failure}
 use Rattle.np_transfer.proofs.reading.read_script.Goals as goal
 
 pub loop-buf-preserved : goal.loop-buf-preserved
 loop-buf-preserved g c = record {
-  faults = omega (arith, c.loop-buf.invariant.faults, c.in-Ok.ensures.cause.later);
+  faults = c.in-Ok.ensures.count ∙ c.loop-buf.invariant.faults;
   short = grind (arith, common_steps);
   failed = λ x e. no_failure _ _ c.in-Ok.n c.args.name.now x (c.loop-buf.invariant.failed x e) c.in-Ok.ensures.failed_calls;
   known = λ f e.

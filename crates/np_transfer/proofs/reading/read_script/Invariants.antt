@@ -5,7 +5,7 @@ use Rattle.np_transfer.proofs.reading.read_script.Given as goal
 
 abbrev pub invariant-loop-buf : goal.invariant-loop-buf
 invariant-loop-buf g l = record {
-  faults : g.F.Files.faults l.initial.files ≤ g.F.Files.faults l.files;
+  faults : g.F.Files.faults l.files ≡ g.F.Files.faults l.initial.files;
   short : length l.bytes.items ≤ 1048577;
   failed : (x : List (List ℕ × FileCall)) → g.F.Files.failed_calls l.initial.files ≡ Some x → g.F.Files.failed_calls l.files ≡ Some x;
   known : (f : Contents) → g.F.Files.contents l.initial.files ≡ Some f → (g.F.Files.contents l.files ≡ Some f) × (l.bytes.items ≡ take (length l.bytes.items) (f l.name));
