@@ -1,5 +1,5 @@
 -- When a run of a program may stop by a fault, and what a sink took by then.
-use Rattle.std.specs.Prelude.{◌≡◌, ℕ, ◌≤◌, List, ◌++◌, Option, Some, Result, Ok, Err}
+use Rattle.std.specs.Prelude.{◌≡◌, ℕ, ◌+◌, ◌-◌, ◌^◌, ◌≤◌, min, List, ◌++◌, Option, Some, Result, Ok, Err}
 use Rattle.np_ports.specs.Causes.{Rose}
 use Rattle.np_ports.specs.declared.error.PortError.{PortError}
 use Rattle.np_ports.specs.declared.error.PortError.TheVariants as ports
@@ -20,6 +20,12 @@ OutputOnly (Ok x) P = Unit {0}
 pub record SinkCause {T : Type 0} (before now : ℕ) (result : Result T Stop) : Type 0 where
   pub later : before ≤ now
   pub failed : OutputOnly result (Rose before now)
+
+-- a sink's count is one higher where the run stopped for the output, up to 2^64 - 1, and else as it was
+abbrev pub counted_output : {T : Type 0} → ℕ → Result T Stop → ℕ
+counted_output n (Ok x) = n
+counted_output n (Err OutputFailed) = min (n + 1) (2 ^ 64 - 1)
+counted_output n (Err NoMemory) = n
 
 -- where the sink tells what it took, it took these bytes
 abbrev pub Adds : Option (List ℕ) → Option (List ℕ) → List ℕ → Type 0

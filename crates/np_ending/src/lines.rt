@@ -2,7 +2,7 @@
 
 ghost use Rattle.std.specs.Prelude.{◌≡◌, ◌++◌, IfOk, OnOk, OnErr, string_bytes};
 ghost use Rattle.np_model.specs.Journal.{end_line, refused_line, rule_name as name_of_rule};
-ghost use Rattle.np_ending.specs.Causes.{Adds, AddsPart, SinkCause};
+ghost use Rattle.np_ending.specs.Causes.{Adds, AddsPart, SinkCause, counted_output};
 
 use crate::stop::Stop;
 use np_model::{Refusal, Rule};
@@ -51,6 +51,7 @@ fn print_line<O: Sink>(out: &mut O, line: &str, status: u8) -> Result<u8, Stop>
     ensures printed { OnOk result (Adds (O.taken out.old) (O.taken out.new) line.now) }
     ensures part { OnErr result (AddsPart (O.taken out.old) (O.taken out.new) line.now) }
     ensures cause { SinkCause (O.faults out.old) (O.faults out.new) result }
+    ensures count { O.faults out.new ≡ counted_output (O.faults out.old) result }
 {
     match print_all(out, line.as_bytes()) {
         Ok(()) => Ok(status),
@@ -66,6 +67,7 @@ pub fn finish<O: Sink>(alloc: Global, out: &mut O, status: u8) -> Result<u8, Sto
     ensures printed { OnOk result (Adds (O.taken out.old) (O.taken out.new) (end_line status)) }
     ensures part { OnErr result (AddsPart (O.taken out.old) (O.taken out.new) (end_line status)) }
     ensures cause { SinkCause (O.faults out.old) (O.faults out.new) result }
+    ensures count { O.faults out.new ≡ counted_output (O.faults out.old) result }
 {
     match end_text(alloc, status) {
         Ok(line) => print_line(out, line.as_str(), status),
@@ -81,6 +83,7 @@ pub fn finish_refused<O: Sink>(alloc: Global, out: &mut O, refusal: Refusal) -> 
     ensures printed { OnOk result (Adds (O.taken out.old) (O.taken out.new) (refused_line refusal)) }
     ensures part { OnErr result (AddsPart (O.taken out.old) (O.taken out.new) (refused_line refusal)) }
     ensures cause { SinkCause (O.faults out.old) (O.faults out.new) result }
+    ensures count { O.faults out.new ≡ counted_output (O.faults out.old) result }
 {
     match refused_text(alloc, refusal) {
         Ok(line) => print_line(out, line.as_str(), 7),
