@@ -13,6 +13,7 @@ use Rattle.np_model.specs.declared.wire.WireKind.TheVariants.{Item}
 use Rattle.np_model.specs.declared.wire.Extent.{Extent}
 use Rattle.np_model.specs.Decoding.{Reading, fault, byte_item, releases_item, depth_of, depth_item, read_text, read_texts, read_code}
 use Rattle.np_model.specs.Faults.{is_byte, is_within, is_text_item, texts_format, is_depth, is_no_releases, IsItemThen, NoneBegins}
+use Rattle.np_model.proofs.NoItems.{no_byte}
 use Rattle.np_wire.proofs.Formats.{both, zeros_is}
 use Rattle.np_wire.proofs.Agreement.{Agrees, ItemAgrees, ByteAgrees, behind, all, passes_nothing, item_bind, byte_is_item, agrees_made}
 
@@ -21,14 +22,6 @@ use Rattle.np_wire.proofs.Agreement.{Agrees, ItemAgrees, ByteAgrees, behind, all
 pub no_item_in_nothing : (form : List ℕ → Bool) → form [] ≡ false → NoneBegins form []
 no_item_in_nothing form h [] rest p = (let no : false ≡ true = sym h ∙ p.of_form in cc)
 no_item_in_nothing form h (b ∷ item) rest p = (let no = p.parts in cc)
-
-no_byte : (test : ℕ → Bool) (b : ℕ) (bs : List ℕ) → test b ≡ false → NoneBegins (is_byte test) (b ∷ bs)
-no_byte test b bs h [] rest p = (let no = p.of_form in cc)
-no_byte test b bs h (c ∷ []) rest p =
-    let same : b ≡ c = (let e = p.parts in cc) in
-    let no : false ≡ true = sym h ∙ ap test same ∙ p.of_form in
-    cc
-no_byte test b bs h (c ∷ d ∷ item) rest p = (let no = p.of_form in cc)
 
 pub byte_tested : (extent : Extent) (test : ℕ → Bool) (b : ℕ) (bs : List ℕ) (t : Bool) → test b ≡ t → ByteAgrees extent test (b ∷ bs) (cond t (Ok (b, bs)) (Err (fault Item extent (b ∷ bs))))
 byte_tested extent test b bs true h = (refl, h)

@@ -1,5 +1,5 @@
 -- What the reader of an item answers.
-use Rattle.std.specs.Prelude.{◌≡◌, Result, Ok, Err}
+use Rattle.std.specs.Prelude.{◌≡◌, ℕ, List, Some, slice_get, Result, Ok, Err}
 use Rattle.np_model.specs.declared.wire.WireError.{WireError}
 use Rattle.np_wire.specs.declared.error.FeedError.{FeedError}
 use Rattle.np_wire.specs.declared.error.FeedError.TheVariants.{Wire, NoMemory}
@@ -13,3 +13,13 @@ Fails NoMemory read = Unit {0}
 abbrev pub Gives : {X Y : Type 0} → (X → Y) → Result X FeedError → Result Y WireError → Type 0
 Gives view (Ok x) read = read ≡ Ok (view x)
 Gives view (Err e) read = Fails e read
+
+-- memory is wanted only where this holds
+abbrev pub WantsMemoryOnly : {X : Type 0} → Type 0 → Result X FeedError → Type 0
+WantsMemoryOnly P (Ok x) = Unit {0}
+WantsMemoryOnly P (Err (Wire e)) = Unit {0}
+WantsMemoryOnly P (Err NoMemory) = P
+
+-- the first byte is the kind of NPP_New, the one message that has texts
+abbrev pub BeginsNew : List ℕ → Type 0
+BeginsNew bytes = slice_get bytes 0 ≡ Some 2

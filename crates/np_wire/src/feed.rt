@@ -2,6 +2,7 @@
 
 ghost use Rattle.std.specs.Prelude.{◌≡◌, ◌+◌, ◌-◌, ◌<◌, ◌≤◌, ◌^◌, ◌++◌, [], drop, length, OnOk, OnErr, IfOk, IfSome};
 ghost use Rattle.np_wire.specs.Feed.{Fed, NextGives, RefusesFirstFault, FrontGives, SizedGives, IsEncoded};
+ghost use Rattle.np_wire.specs.Reading.{WantsMemoryOnly, BeginsNew};
 
 use crate::FeedError;
 use crate::reading::body;
@@ -56,11 +57,12 @@ impl Feed {
     }
 
     /// The next message, or `None` while more bytes have to come. Bytes that break the format stay where
-    /// they are, so a later call gives the same error, or wants memory.
+    /// they are, so a later call gives the same error, or wants memory. Only NPP_New takes memory.
     pub fn next(&mut self) -> Result<Option<Message>, FeedError>
         ensures exact { NextGives self.old self.new result }
         ensures found { IfOk result (λ next. IfSome next (λ m. IsEncoded m self.old.left self.new.left)) }
         ensures fault { RefusesFirstFault self.old.consumed self.old.left result }
+        ensures memory { WantsMemoryOnly (BeginsNew (drop 4 self.old.left)) result }
     {
         match front(self.alloc, self.consumed, &self.bytes[self.start..])? {
             None => Ok(None),
@@ -96,6 +98,7 @@ impl Feed {
 fn front(alloc: Global, at: u64, bytes: &[u8]) -> Result<Option<(Message, usize)>, FeedError>
     requires { at + length bytes.now < 2 ^ 64 }
     ensures front { FrontGives at bytes.now result }
+    ensures memory { WantsMemoryOnly (BeginsNew (drop 4 bytes.now)) result }
     ensures size { IfOk result (λ next. IfSome next (λ m. m.1 ≤ length bytes.now)) }
     ensures found { IfOk result (λ next. IfSome next (λ m. IsEncoded m.0 bytes.now (drop m.1 bytes.now))) }
     ensures fault { RefusesFirstFault at bytes.now result }
@@ -117,6 +120,7 @@ fn sized(
 ) -> Result<Option<(Message, usize)>, FeedError>
     requires { at + 4 + length rest.now < 2 ^ 64 }
     ensures front { SizedGives at size rest.now result }
+    ensures memory { WantsMemoryOnly (BeginsNew rest.now) result }
     ensures size { IfOk result (λ next. IfSome next (λ m. m.1 ≤ 4 + length rest.now)) }
 {
     if size < 4 || size > 32768 {

@@ -1,10 +1,10 @@
 //! Readers of the items of a message, from the left.
 
-ghost use Rattle.std.specs.Prelude.{◌≡◌, ◌+◌, ◌≤◌, ◌<◌, length, Some, None, IfOk};
+ghost use Rattle.std.specs.Prelude.{◌≡◌, ◌+◌, ◌≤◌, ◌<◌, length, slice_get, Some, None, IfOk};
 ghost use Rattle.std.specs.Int.{w16, w32, from_be_bytes};
 ghost use Rattle.np_model.specs.declared.wire.WireKind.TheVariants.{Item, Rest};
 ghost use Rattle.np_model.specs.Decoding.{fault as fault_of, byte_item, releases_item, depth_of, depth_item, read_text, read_texts, read_hello, read_new, read_destroy, read_code, read_payload, is_kind, kind_item, read_body};
-ghost use Rattle.np_wire.specs.Reading.{Gives};
+ghost use Rattle.np_wire.specs.Reading.{Gives, WantsMemoryOnly, BeginsNew};
 
 use crate::FeedError;
 use np_model::{Depth, Extent, Message, Payload, Texts, WireError, WireKind};
@@ -28,6 +28,7 @@ fn byte(extent: Extent, low: u8, high: u8, bytes: &[u8]) -> Result<(u8, &[u8]), 
     requires { length bytes.now ≤ extent.end }
     ensures exact { Gives (λ x. (x.0, x.1.now)) result (byte_item extent low high bytes.now) }
     ensures shorter { IfOk result (λ x. length x.1.now ≤ length bytes.now) }
+    ensures sure { WantsMemoryOnly ⊥ result }
 {
     match bytes {
         [b, rest @ ..] if low <= *b && *b <= high => Ok((*b, rest)),
@@ -40,6 +41,7 @@ fn releases(extent: Extent, bytes: &[u8]) -> Result<&[u8], FeedError>
     requires { length bytes.now ≤ extent.end }
     ensures exact { Gives (λ x. x.now) result (releases_item extent bytes.now) }
     ensures shorter { IfOk result (λ x. length x.now ≤ length bytes.now) }
+    ensures sure { WantsMemoryOnly ⊥ result }
 {
     match bytes {
         [0, 0, rest @ ..] => Ok(rest),
@@ -69,6 +71,7 @@ fn depth(extent: Extent, bytes: &[u8]) -> Result<(Depth, &[u8]), FeedError>
     requires { length bytes.now ≤ extent.end }
     ensures exact { Gives (λ x. (x.0, x.1.now)) result (depth_item extent bytes.now) }
     ensures shorter { IfOk result (λ x. length x.1.now ≤ length bytes.now) }
+    ensures sure { WantsMemoryOnly ⊥ result }
 {
     match bytes {
         [b, rest @ ..] => match depth_of_byte(*b) {
@@ -129,6 +132,7 @@ fn hello(extent: Extent, bytes: &[u8]) -> Result<(Payload, &[u8]), FeedError>
     requires { length bytes.now ≤ extent.end }
     ensures exact { Gives (λ x. (x.0, x.1.now)) result (read_hello extent bytes.now) }
     ensures shorter { IfOk result (λ x. length x.1.now ≤ length bytes.now) }
+    ensures sure { WantsMemoryOnly ⊥ result }
 {
     let (version, rest) = byte(extent, 1, 1, bytes)?;
     let (major, rest) = byte(extent, 0, 255, rest)?;
@@ -170,6 +174,7 @@ fn destroy(extent: Extent, bytes: &[u8]) -> Result<(Payload, &[u8]), FeedError>
     requires { length bytes.now ≤ extent.end }
     ensures exact { Gives (λ x. (x.0, x.1.now)) result (read_destroy extent bytes.now) }
     ensures shorter { IfOk result (λ x. length x.1.now ≤ length bytes.now) }
+    ensures sure { WantsMemoryOnly ⊥ result }
 {
     let (instance, rest) = byte(extent, 1, 255, bytes)?;
     Ok((Payload::Destroy { instance }, rest))
@@ -179,6 +184,7 @@ fn code(extent: Extent, bytes: &[u8]) -> Result<(Payload, &[u8]), FeedError>
     requires { length bytes.now ≤ extent.end }
     ensures exact { Gives (λ x. (x.0, x.1.now)) result (read_code extent bytes.now) }
     ensures shorter { IfOk result (λ x. length x.1.now ≤ length bytes.now) }
+    ensures sure { WantsMemoryOnly ⊥ result }
 {
     match bytes {
         [b, rest @ ..] => match NpError::from_code(u16::from(*b)) {
@@ -202,6 +208,7 @@ fn payload<'a>(
     requires whole { length whole.now ≤ extent.end }
     ensures exact { Gives (λ x. (x.0, x.1.now)) result (read_payload extent kind bytes.now whole.now) }
     ensures shorter { IfOk result (λ x. length x.1.now ≤ length bytes.now) }
+    ensures memory { WantsMemoryOnly (kind ≡ 2) result }
 {
     match kind {
         1 => hello(extent, bytes),
@@ -225,6 +232,8 @@ fn kind(extent: Extent, bytes: &[u8]) -> Result<(u8, &[u8]), FeedError>
     requires { length bytes.now ≤ extent.end }
     ensures exact { Gives (λ x. (x.0, x.1.now)) result (kind_item extent bytes.now) }
     ensures shorter { IfOk result (λ x. length x.1.now ≤ length bytes.now) }
+    ensures sure { WantsMemoryOnly ⊥ result }
+    ensures first { IfOk result (λ x. slice_get bytes.now 0 ≡ Some x.0) }
 {
     match bytes {
         [b, rest @ ..] if is_known(*b) => Ok((*b, rest)),
@@ -236,7 +245,8 @@ fn kind(extent: Extent, bytes: &[u8]) -> Result<(u8, &[u8]), FeedError>
 #[tactic(auto, unfolding(np_model::specs::Decoding::read_body))]
 pub fn body(alloc: Global, extent: Extent, bytes: &[u8]) -> Result<Message, FeedError>
     requires { length bytes.now ≤ extent.end }
-    ensures { Gives (λ m. m) result (read_body extent bytes.now) }
+    ensures exact { Gives (λ m. m) result (read_body extent bytes.now) }
+    ensures memory { WantsMemoryOnly (BeginsNew bytes.now) result }
 {
     let (kind, rest) = kind(extent, bytes)?;
     let (depth, rest) = depth(extent, rest)?;
