@@ -13,3 +13,8 @@ pub mod Honest
 pub mod Replies
 pub mod FewCalls
 pub mod Weights
+pub mod MessageRows
+pub mod FaultRows
+pub mod PageRows
+pub mod ServeRows
+pub mod LineRows
