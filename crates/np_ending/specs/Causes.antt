@@ -1,4 +1,4 @@
--- When a run of a program may stop by a fault, and what a sink took by then.
+-- When a run of a program may stop by a fault, and what a sink took by then. (This project's own.)
 use Rattle.std.specs.Prelude.{◌≡◌, ℕ, ◌+◌, ◌-◌, ◌^◌, ◌≤◌, min, List, ◌++◌, Option, Some, Result, Ok, Err}
 use Rattle.np_ports.specs.Causes.{Rose}
 use Rattle.np_ports.specs.declared.error.PortError.{PortError}
@@ -11,6 +11,7 @@ abbrev pub stop_of : PortError → Stop
 stop_of ports.Failed = OutputFailed
 stop_of ports.NoMemory = NoMemory
 
+-- this holds where the run stops for the output
 abbrev pub OutputOnly : {T : Type 0} → Result T Stop → Type 0 → Type 0
 OutputOnly (Err OutputFailed) P = P
 OutputOnly (Err NoMemory) P = Unit {0}

@@ -1,4 +1,4 @@
--- When an exchange may end by its peer.
+-- When an exchange may end by its peer. (This project's own.)
 use Rattle.std.specs.Prelude.{◌≡◌, ℕ, ◌≤◌, List, ◌++◌, Bool, true, false, Option, Some, None, Result, Ok, Err, ◌⊎◌}
 use Rattle.np_values.specs.declared.memory.NoMemory.{NoMemory}
 use Rattle.np_ports.specs.Causes.{Rose}
@@ -16,6 +16,7 @@ use Rattle.np_ending.specs.declared.stop.Stop.TheVariants as stops
 abbrev pub TookPart : Option Known → Option Known → List ℕ → Type 0
 TookPart known0 known1 bytes = (t : Known) → known0 ≡ Some t → (x : List ℕ) × (y : List ℕ) × (bytes ≡ x ++ y) × (known1 ≡ Some (took t x))
 
+-- this holds where messages stay unsent
 abbrev pub Unsent : Result Bool NoMemory → Type 0 → Type 0
 Unsent (Ok true) P = Unit {0}
 Unsent (Ok false) P = P
@@ -32,17 +33,20 @@ pub record PeerCause (before now : ℕ) (result : Result Bool NoMemory) : Type 0
 abbrev pub ReadCut : Option Known → Option Known → Type 0
 ReadCut known0 known1 = (t : Known) → known0 ≡ Some t → (known1 ≡ Some t) ⊎ ((n : ℕ) × (buf : List ℕ) × (known1 ≡ Some (gave t n buf)))
 
+-- no more bytes came than this
 abbrev pub AtMost : Heard → ℕ → Type 0
 AtMost (heard.Bytes n) limit = n ≤ limit
 AtMost heard.Ended limit = Unit {0}
 AtMost heard.Failed limit = Unit {0}
 
+-- this holds where the read failed
 abbrev pub Unread : Result Heard NoMemory → Type 0 → Type 0
 Unread (Ok (heard.Bytes n)) P = Unit {0}
 Unread (Ok heard.Ended) P = Unit {0}
 Unread (Ok heard.Failed) P = P
 Unread (Err e) P = Unit {0}
 
+-- the peer's count doesn't fall, and a read failed only where it rose
 pub record ReadCause (before now : ℕ) (result : Result Heard NoMemory) : Type 0 where
   pub later : before ≤ now
   pub failed : Unread result (Rose before now)
@@ -61,11 +65,13 @@ abbrev pub GoesOnOnly : Option Ending → Type 0 → Type 0
 GoesOnOnly None P = P
 GoesOnOnly (Some ending) P = Unit {0}
 
+-- the run stops for want of memory alone
 abbrev pub IsMemoryOnly : Result (Option Ending) Stop → Type 0
 IsMemoryOnly (Ok ending) = Unit {0}
 IsMemoryOnly (Err stops.OutputFailed) = ⊥
 IsMemoryOnly (Err stops.NoMemory) = Unit {0}
 
+-- this holds where the exchange ends by a fault of the peer
 abbrev pub FaultEnding : Option Ending → Type 0 → Type 0
 FaultEnding None P = Unit {0}
 FaultEnding (Some endings.Done) P = Unit {0}
@@ -74,6 +80,7 @@ FaultEnding (Some endings.Ended) P = Unit {0}
 FaultEnding (Some endings.Failed) P = P
 FaultEnding (Some (endings.Refused r)) P = Unit {0}
 
+-- the same of a turn of the exchange
 abbrev pub FaultOnly : Result (Option Ending) Stop → Type 0 → Type 0
 FaultOnly (Ok ending) P = FaultEnding ending P
 FaultOnly (Err stop) P = Unit {0}
@@ -95,14 +102,17 @@ EndedOnly ended (Err stop) = Unit {0}
 
 -- ---- the whole exchange
 
+-- the same of the whole exchange
 abbrev pub TalkFault : Result Ending Stop → Type 0 → Type 0
 TalkFault (Ok ending) P = FaultEnding (Some ending) P
 TalkFault (Err stop) P = Unit {0}
 
+-- the peer's count doesn't fall, and the exchange ends by its fault only where it rose
 pub record TalkCause (before now : ℕ) (result : Result Ending Stop) : Type 0 where
   pub later : before ≤ now
   pub failed : TalkFault result (Rose before now)
 
+-- the exchange ends by the peer's end only where a read answered it
 abbrev pub TalkEnded : Bool → Result Ending Stop → Type 0
 TalkEnded ended (Ok ending) = EndedOnly ended (Ok (Some ending))
 TalkEnded ended (Err stop) = Unit {0}
@@ -117,6 +127,7 @@ HasReason pipe_failed peer_ended (endings.Refused r) = Unit {0}
 
 -- ---- a session, which answers a status
 
+-- this holds where the status is 6
 abbrev pub SixOnly : Result ℕ Stop → Type 0 → Type 0
 SixOnly (Ok status) P = status ≡ 6 → P
 SixOnly (Err stop) P = Unit {0}

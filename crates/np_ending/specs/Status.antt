@@ -4,6 +4,7 @@ use Rattle.np_model.specs.Journal.{end_line, refused_line}
 use Rattle.np_ending.specs.declared.ending.Ending.{Ending}
 use Rattle.np_ending.specs.declared.ending.Ending.TheVariants.{Done, Unsent, Ended, Failed, Refused}
 
+-- the status of each ending
 abbrev pub status_of : Ending → ℕ
 status_of Done = 0
 status_of Unsent = 6
@@ -11,6 +12,7 @@ status_of Ended = 5
 status_of Failed = 6
 status_of (Refused r) = 7
 
+-- a status of a script that ran
 abbrev pub IsRunStatus : ℕ → Type 0
 IsRunStatus status = (status ≡ 0) ⊎ ((status ≡ 5) ⊎ ((status ≡ 6) ⊎ (status ≡ 7)))
 

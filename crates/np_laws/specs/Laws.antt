@@ -1,4 +1,4 @@
--- The laws of runs. Each is the contract of a function of src/laws.rt.
+-- The laws of runs. Each is the contract of a function of src/laws.rt. (This project's own.)
 use Rattle.std.specs.Prelude.{◌≡◌, ℕ, ◌+◌, ◌*◌, ◌≤◌, List, [], ◌∷◌, ◌++◌, length, take, map, Bool, true, false, Some, None}
 use Rattle.std.specs.List.{flat_map, list_all}
 use Rattle.np_model.specs.declared.message.Message.{Message}
@@ -33,6 +33,7 @@ CutLaw = (P : Plans PageControl) (Q : Plans PluginControl) (c : PageControl) (d 
     let w = machine_run P Q None None rounds (both_start c d) in
     k ≤ length w.plugin.sent → RestsAt P (take k w.plugin.sent) (at_start c) p → PageRests P Q (both_start c d) k p
 
+-- The same of the plug-in alone, with the first j messages that the page sends in a run.
 abbrev pub PluginCutLaw : Type 0
 PluginCutLaw = (P : Plans PageControl) (Q : Plans PluginControl) (c : PageControl) (d : PluginControl) (rounds j : ℕ) (q : SideState PluginControl) →
     let w = machine_run P Q None None rounds (both_start c d) in
@@ -95,6 +96,7 @@ pub record IsReply (m : Message) : Type 0 where
   pub format : KeepsFormat m
   pub typed : IsTyped m.body
 
+-- each is such a reply
 abbrev pub AreReplies : List Message → Type 0
 AreReplies [] = Unit {0}
 AreReplies (m ∷ messages) = IsReply m × AreReplies messages

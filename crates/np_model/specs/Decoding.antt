@@ -12,6 +12,7 @@ use Rattle.np_model.specs.declared.wire.WireKind.TheVariants.{Length, Item, Rest
 use Rattle.np_model.specs.declared.wire.WireError.{WireError}
 use Rattle.np_model.specs.declared.wire.Extent.{Extent}
 
+-- a reading goes on with what was read, and stops at the first fault
 infixl 10 ◌>>=◌
 abbrev pub ◌>>=◌ : {A B : Type 0} → Result A WireError → (A → Result B WireError) → Result B WireError
 (Ok x) >>= f = f x
@@ -36,16 +37,19 @@ releases_item extent [] = Err (fault Item extent [])
 releases_item extent (b ∷ []) = Err (fault Item extent (b ∷ []))
 releases_item extent (b ∷ c ∷ bs) = if b == 0 && c == 0 then Ok bs else Err (fault Item extent (b ∷ c ∷ bs))
 
+-- the depth of a byte: 1 to 64 is a level, 129 to 192 a level with a task's mark
 abbrev pub depth_of : ℕ → Option Depth
 depth_of b =
     if nat_le 1 b && nat_le b 64 then Some (record { level = b; task = false })
     else if nat_le 129 b && nat_le b 192 then Some (record { level = b - 128; task = true })
     else None
 
+-- a byte of depth
 abbrev pub depth_item : Extent → List ℕ → Reading Depth
 depth_item extent [] = Err (fault Item extent [])
 depth_item extent (b ∷ bs) = elim (depth_of b) [ Some depth ↦ Ok (depth, bs) | None ↦ Err (fault Item extent (b ∷ bs)) ]
 
+-- a text: two bytes of length, and that many bytes of UTF-8, at most 2,048
 unfoldable pub read_text : Extent → List ℕ → Reading (List ℕ)
 read_text extent bytes =
     if nat_lt (length bytes) 2 then Err (fault Item extent bytes)
@@ -61,6 +65,7 @@ read_texts extent (suc n) bytes = do
   texts ← read_texts extent n text.1
   Ok (text.0 ∷ texts.0, texts.1)
 
+-- the wire version, which is 1, major and minor
 unfoldable pub read_hello : Extent → List ℕ → Reading Payload
 read_hello extent bytes = do
   version ← byte_item extent 1 1 bytes
@@ -68,6 +73,7 @@ read_hello extent bytes = do
   minor ← byte_item extent 0 255 major.1
   Ok (Hello version.0 major.0 minor.0, minor.1)
 
+-- instance, mode, MIME type, a count of attributes, and a name and a value for each
 unfoldable pub read_new : Extent → List ℕ → Reading Payload
 read_new extent bytes = do
   instance ← byte_item extent 1 255 bytes
@@ -77,9 +83,11 @@ read_new extent bytes = do
   attributes ← read_texts extent (pairs.0 + pairs.0) pairs.1
   Ok (New instance.0 mode.0 mime.0 attributes.0, attributes.1)
 
+-- the instance
 unfoldable pub read_destroy : Extent → List ℕ → Reading Payload
 read_destroy extent bytes = byte_item extent 1 255 bytes >>= (λ instance. Ok (Destroy instance.0, instance.1))
 
+-- the number of an error
 abbrev pub read_code : Extent → List ℕ → Reading Payload
 read_code extent [] = Err (fault Item extent [])
 read_code extent (b ∷ bs) = elim (error_of b) [ Some error ↦ Ok (Code error, bs) | None ↦ Err (fault Item extent (b ∷ bs)) ]
@@ -96,9 +104,11 @@ read_payload extent kind bytes whole =
     else if kind == 71 then Ok (Done, bytes)
     else Err (fault Item extent whole)
 
+-- the numbers of the kinds
 abbrev pub is_kind : ℕ → Bool
 is_kind k = k == 1 || (k == 2 || (k == 3 || (k == 5 || (k == 12 || (k == 69 || k == 71)))))
 
+-- a byte that is the number of a kind
 abbrev pub kind_item : Extent → List ℕ → Reading ℕ
 kind_item extent [] = Err (fault Item extent [])
 kind_item extent (b ∷ bs) = if is_kind b then Ok (b, bs) else Err (fault Item extent (b ∷ bs))
@@ -118,10 +128,12 @@ pub data Front : Type 0 where
   Whole : Message → List ℕ → Front  -- a message, and the bytes behind it
   Bad : WireError → Front
 
+-- what a body that was read, or its fault, makes of the front
 abbrev pub front_body : Result Message WireError → List ℕ → Front
 front_body (Ok m) rest = Whole m rest
 front_body (Err e) rest = Bad e
 
+-- where a message lies that begins at this place and has this length
 abbrev pub extent_of : ℕ → ℕ → Extent
 extent_of at n = record { start = at; length = n; end = at + 4 + n }
 

@@ -12,10 +12,12 @@ use Rattle.np_model.specs.declared.message.Message.{Message}
 abbrev pub text_item : List ℕ → List ℕ
 text_item text = to_be_bytes w16 (length text) ++ text
 
+-- each text behind the one before
 abbrev pub text_items : List (List ℕ) → List ℕ
 text_items [] = []
 text_items (text ∷ texts) = text_item text ++ text_items texts
 
+-- the number of the kind
 abbrev pub kind_of : Payload → ℕ
 kind_of (Hello version major minor) = 1
 kind_of (New instance mode mime attributes) = 2
@@ -47,6 +49,7 @@ body_of m = kind_of m.body ∷ depth_byte m.depth ∷ 0 ∷ 0 ∷ items_of m.bod
 unfoldable pub encoding : Message → List ℕ
 encoding m = to_be_bytes w32 (length (body_of m)) ++ body_of m
 
+-- the bytes of each message behind those of the one before
 abbrev pub encodings : List Message → List ℕ
 encodings [] = []
 encodings (m ∷ messages) = encoding m ++ encodings messages
@@ -69,6 +72,7 @@ pub record KeepsFormat (m : Message) : Type 0 where
   pub below : m.depth.level < 65
   pub body : KeepsKind m.body
 
+-- each is a text
 abbrev pub AreTexts : List (List ℕ) → Type 0
 AreTexts [] = Unit {0}
 AreTexts (text ∷ texts) = (is_text text ≡ true) × AreTexts texts

@@ -1,4 +1,4 @@
--- What the host prints and writes in the run of a page and a plug-in.
+-- What the host prints and writes in the run of a page and a plug-in. (This project's own.)
 use Rattle.std.specs.Prelude.{◌≡◌, ℕ, List, [], ◌++◌, None}
 use Rattle.np_model.specs.declared.script.Page.{Page}
 use Rattle.np_model.specs.declared.page.Stage.{Stage}
@@ -13,6 +13,7 @@ use Rattle.np_model.specs.declared.script.Plugin.{Plugin}
 use Rattle.np_model.specs.Refused.{RefusedBy}
 use Rattle.np_model.specs.PluginPlan.{PluginControl, plugin_plans, plugin_start}
 
+-- this page and a plug-in before anything was done
 abbrev pub start_of : Page → Machine PageControl PluginControl
 start_of page = record { page = at_start (page_start page); plugin = at_start plugin_start }
 
@@ -24,6 +25,7 @@ HostRests page plugin k p = PageRests (page_plans page) (plugin_plans plugin) (s
 abbrev pub GoesOnLost : Page → SideState PageControl → SideState PageControl → Type 0
 GoesOnLost page p q = RestsAt (page_plans page) [] (lose p) q
 
+-- the page awaits the reply to a call
 abbrev pub IsAwaiting : Stage → Type 0
 IsAwaiting Begin = ⊥
 IsAwaiting Ready = ⊥

@@ -10,12 +10,15 @@ use Rattle.np_model.specs.declared.refusal.Refusal.{Refusal}
 abbrev pub result_line : ℕ → List ℕ → List ℕ
 result_line number text = decimal number ++ codes ": " ++ text ++ 10 ∷ []
 
+-- the result of NPP_New: the number of its error
 abbrev pub code_line : ℕ → NpError → List ℕ
 code_line number error = result_line number (codes "error " ++ decimal (code_of error))
 
+-- the result of a `turn` that was answered
 abbrev pub void_line : ℕ → List ℕ
 void_line number = result_line number (codes "true void")
 
+-- the result of a `turn` that was not
 abbrev pub false_line : ℕ → List ℕ
 false_line number = result_line number (codes "false")
 
@@ -27,6 +30,7 @@ new_line instance = codes "> inst:" ++ decimal instance ++ codes " new" ++ 10 �
 abbrev pub end_line : ℕ → List ℕ
 end_line status = codes "end " ++ decimal status ++ 10 ∷ []
 
+-- the word that the last line has for a rule
 abbrev pub rule_name : Rule → List ℕ
 rule_name Bytes = codes "bytes"
 rule_name Length = codes "length"

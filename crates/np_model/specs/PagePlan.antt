@@ -23,6 +23,7 @@ use Rattle.np_model.specs.Side.{SideState, Micro, Control, Send, Deliver, Print}
 use Rattle.np_model.specs.Run.{Pace, Acts, Awaits, HasEnded, Meeting, Accepts, Refuses, Plans}
 use Rattle.np_model.specs.Journal.{code_line, void_line, false_line}
 
+-- where a page stands
 pub record PageControl : Type 0 where
   pub commands : List Command  -- the commands that are left
   pub number : ℕ  -- how many were begun
@@ -30,6 +31,7 @@ pub record PageControl : Type 0 where
   pub peer : PeerState
   pub stage : Stage
 
+-- a page before anything was done
 abbrev pub page_start : Page → PageControl
 page_start page = record { commands = page.commands; number = 0; phases = []; peer = Compatible; stage = Begin }
 
@@ -51,6 +53,7 @@ last_instance c = length c.phases
 
 -- ---- commands
 
+-- one more command was begun, and these are left
 abbrev pub begun : PageControl → List Command → PageControl
 begun c rest = record c { commands = rest; number = c.number + 1 }
 
@@ -66,6 +69,7 @@ create_plan c mime mode Compatible =
 create_plan c mime mode Incompatible = Control (with_instance c Dead) ∷ (Print (code_line c.number IncompatibleVersion) ∷ [])
 create_plan c mime mode Lost = Control (with_instance c Dead) ∷ (Print (code_line c.number ModuleLoadFailed) ∷ [])
 
+-- an empty call, and once the plug-in is lost the line of a turn that was not answered
 abbrev pub turn_plan : PageControl → PeerState → List (Micro PageControl)
 turn_plan c Compatible = calls_for c calls.Turn payloads.Turn
 turn_plan c Incompatible = calls_for c calls.Turn payloads.Turn
@@ -73,6 +77,7 @@ turn_plan c Lost = Control c ∷ (Print (false_line c.number) ∷ [])
 
 -- ---- the end of the page
 
+-- an instance that NPP_New made and NPP_Destroy was not called for
 abbrev pub is_live : Phase → Bool
 is_live Absent = false
 is_live Live = true
@@ -84,11 +89,13 @@ abbrev pub close_plan : PageControl → Option ℕ → List (Micro PageControl)
 close_plan c (Some place) = calls_for (with_phase c (place + 1) Destroying) (calls.Destroy (place + 1)) (payloads.Destroy (place + 1))
 close_plan c None = calls_for c calls.Shutdown payloads.Shutdown
 
+-- what a page does that has no command left
 abbrev pub end_plan : PageControl → PeerState → List (Micro PageControl)
 end_plan c Compatible = close_plan c (position is_live c.phases)
 end_plan c Incompatible = close_plan c (position is_live c.phases)
 end_plan c Lost = Control (record c { stage = Ended }) ∷ []
 
+-- the next command, and where none is left the end
 abbrev pub next_plan : PageControl → List Command → List (Micro PageControl)
 next_plan c [] = end_plan c c.peer
 next_plan c (Create mime mode ∷ rest) = create_plan (begun c rest) mime mode c.peer
@@ -104,6 +111,7 @@ lost_plan c (calls.Destroy instance) = Control c ∷ []
 lost_plan c calls.Turn = Control c ∷ (Print (false_line c.number) ∷ [])
 lost_plan c calls.Shutdown = Control c ∷ []
 
+-- a call that was open stays without its reply; else the page goes on
 abbrev pub unanswered : Stage → Stage
 unanswered Begin = Ready
 unanswered Ready = Ready
@@ -115,11 +123,13 @@ unanswered Ended = Ended
 abbrev pub peer_lost : PageControl → PageControl
 peer_lost c = record c { phases = map (λ phase. Dead) c.phases; peer = Lost; stage = unanswered c.stage }
 
+-- the side of a page whose plug-in is lost
 abbrev pub lose : SideState PageControl → SideState PageControl
 lose p = record p { control = peer_lost p.control }
 
 -- ---- what the page does where it doesn't wait
 
+-- Hello, then the commands; a page that awaits a reply or has ended does nothing
 abbrev pub go_plan : Page → PageControl → Stage → List (Micro PageControl)
 go_plan page c Begin = calls_for c calls.Hello (payloads.Hello 1 page.major page.minor)
 go_plan page c Ready = next_plan c c.commands
@@ -127,6 +137,7 @@ go_plan page c (Awaiting call) = []
 go_plan page c (Unanswered call) = lost_plan (record c { stage = Ready }) call
 go_plan page c Ended = []
 
+-- whether the page acts, awaits a message or has ended
 abbrev pub pace_at : Stage → Pace
 pace_at Begin = Acts
 pace_at Ready = Acts
@@ -149,11 +160,13 @@ abbrev pub created : PageControl → NpError → Meeting PageControl
 created c NoError = resumes c (code_line c.number NoError)
 created c error = resumes (with_phase c (last_instance c) Dead) (code_line c.number error)
 
+-- Hello's answer: 8 is an incompatible plug-in, and another than 0 and 8 is none
 abbrev pub greeted : PageControl → Message → NpError → Meeting PageControl
 greeted c m NoError = resumes c []
 greeted c m IncompatibleVersion = resumes (record c { peer = Incompatible }) []
 greeted c m error = unmatched m
 
+-- NPP_Destroy's answer, which is 0, ends the instance
 abbrev pub destroyed : PageControl → Message → ℕ → NpError → Meeting PageControl
 destroyed c m instance NoError = resumes (with_phase c instance Dead) []
 destroyed c m instance error = unmatched m
@@ -187,9 +200,11 @@ is_reply payloads.Shutdown = false
 is_reply (payloads.Code error) = true
 is_reply payloads.Done = true
 
+-- the depth of the page's calls
 abbrev pub is_level_1 : Depth → Bool
 is_level_1 depth = depth_byte depth == 1
 
+-- a reply where one is awaited; a page that awaits none has no call open
 abbrev pub meet_at : PageControl → Message → Stage → Meeting PageControl
 meet_at c m (Awaiting call) = if is_level_1 m.depth then reply_plan c m call m.body else unmatched m
 meet_at c m stage = unmatched m
@@ -198,6 +213,7 @@ meet_at c m stage = unmatched m
 abbrev pub meet_plan : PageControl → Message → Meeting PageControl
 meet_plan c m = if is_reply m.body then meet_at c m c.stage else Refuses WrongKind (kind_of m.body) (instance_of m.body)
 
+-- all that this page has its side do
 abbrev pub page_plans : Page → Plans PageControl
 page_plans page = record {
   pace = λ p. pace_at p.control.stage;

@@ -18,10 +18,12 @@ use Rattle.np_model.specs.Run.{Pace, Awaits, HasEnded, Meeting, Accepts, Refuses
 use Rattle.np_model.specs.Journal.{new_line}
 use Rattle.np_model.specs.PagePlan.{is_live, instance_of, is_reply}
 
+-- where a plug-in stands
 pub record PluginControl : Type 0 where
   pub stage : PluginStage
   pub phases : List Phase  -- of the instances that NPP_New was called for, from instance 1 on
 
+-- a plug-in before anything was done
 abbrev pub plugin_start : PluginControl
 plugin_start = record { stage = Begin; phases = [] }
 
@@ -41,6 +43,7 @@ may_follow c payloads.Shutdown = true
 may_follow c (payloads.Code error) = true
 may_follow c payloads.Done = false
 
+-- the first call of a page
 abbrev pub is_hello : Payload → Bool
 is_hello (payloads.Hello version major minor) = true
 is_hello body = false
@@ -99,6 +102,7 @@ lines_of_call plugin call = []
 abbrev pub reply_message : Plugin → Message → Message
 reply_message plugin m = record { depth = m.depth; body = reply_to plugin m.body }
 
+-- a call that is served: it is delivered, the plug-in goes on, prints its lines and replies
 abbrev pub serve_plan : Plugin → PluginControl → Message → List (Micro PluginControl)
 serve_plan plugin c m =
     Deliver ∷ (Control (control_after_call plugin c m.body) ∷ (Print (lines_of_call plugin m.body) ∷ (Send (reply_message plugin m) ∷ [])))
@@ -113,11 +117,13 @@ plugin_meet plugin c m =
     else if m.depth.task then Refuses Place (depth_byte m.depth) 0
     else Accepts (serve_plan plugin c m)
 
+-- a plug-in does nothing by itself
 abbrev pub plugin_pace : PluginStage → Pace
 plugin_pace Begin = Awaits
 plugin_pace Serving = Awaits
 plugin_pace Ended = HasEnded
 
+-- all that this plug-in has its side do
 abbrev pub plugin_plans : Plugin → Plans PluginControl
 plugin_plans plugin = record {
   pace = λ p. plugin_pace p.control.stage;

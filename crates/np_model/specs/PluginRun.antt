@@ -1,4 +1,4 @@
--- What the plug-in prints and writes in the run of a page and a plug-in.
+-- What the plug-in prints and writes in the run of a page and a plug-in. (This project's own.)
 use Rattle.std.specs.Prelude.{◌≡◌, ℕ, List, ◌++◌, Some, None}
 use Rattle.np_model.specs.declared.script.Page.{Page}
 use Rattle.np_model.specs.declared.script.Plugin.{Plugin}

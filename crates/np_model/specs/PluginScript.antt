@@ -43,9 +43,11 @@ new_handler_of (h ∷ a ∷ e ∷ []) = do
   Some (Some number)
 new_handler_of (h ∷ a ∷ e ∷ l ∷ ls) = None
 
+-- the same of bytes
 abbrev pub new_handler_in : List ℕ → Option (Option ℤ)
 new_handler_in bytes = counted (lines_of bytes) >>= new_handler_of
 
+-- `plugin` with the version, and the handler
 unfoldable pub plugin_of_lines : List (List ℕ) → Option Plugin
 plugin_of_lines [] = None
 plugin_of_lines (h ∷ ls) = do
@@ -53,6 +55,7 @@ plugin_of_lines (h ∷ ls) = do
   handler ← new_handler_of ls
   Some (record { major = head.0; minor = head.1; new_handler = handler })
 
+-- the plug-in of the lines in these bytes
 abbrev pub plugin_in : List ℕ → Option Plugin
 plugin_in bytes = counted (lines_of bytes) >>= plugin_of_lines
 

@@ -21,6 +21,7 @@ pub record Plans (C : Type 0) : Type 0 where
   pub go : SideState C → List (Micro C)
   pub meet : SideState C → Message → Meeting C
 
+-- the first message, if there is one
 abbrev pub first : List Message → Option Message
 first [] = None
 first (m ∷ rest) = Some m
@@ -34,10 +35,12 @@ abbrev pub meets : {C : Type 0} → SideState C → Message → Meeting C → Si
 meets p m (Accepts steps) = run_steps steps (examine m p)
 meets p m (Refuses rule first second) = p
 
+-- a side that awaits a message meets it, if it is there
 abbrev pub listens : {C : Type 0} → Plans C → SideState C → Option Message → SideState C
 listens S p None = p
 listens S p (Some m) = meets p m (S.meet p m)
 
+-- a turn at this pace
 abbrev pub turn_at : {C : Type 0} → Plans C → List Message → SideState C → Pace → SideState C
 turn_at S got p Acts = run_steps (S.go p) p
 turn_at S got p Awaits = listens S p (next_message got p)
@@ -54,10 +57,12 @@ endpoint_run S got (suc n) p = turn S got (endpoint_run S got n p)
 
 -- ---- both sides
 
+-- both sides of one process
 pub record Machine (C D : Type 0) : Type 0 where
   pub page : SideState C
   pub plugin : SideState D
 
+-- which side has a turn
 pub data Side : Type 0 where
   OfPage : Side
   OfPlugin : Side
@@ -67,9 +72,11 @@ abbrev pub through : Option ℕ → List Message → List Message
 through None messages = messages
 through (Some k) messages = take k messages
 
+-- the page has a turn, and the plug-in stays as it is
 abbrev pub page_turn : {C D : Type 0} → Plans C → Option ℕ → Machine C D → Machine C D
 page_turn P k w = record { page = turn P (through k w.plugin.sent) w.page; plugin = w.plugin }
 
+-- the plug-in has a turn, and the page stays as it is
 abbrev pub plugin_turn : {C D : Type 0} → Plans D → Option ℕ → Machine C D → Machine C D
 plugin_turn Q j w = record { page = w.page; plugin = turn Q (through j w.page.sent) w.plugin }
 

@@ -11,17 +11,20 @@ use Rattle.np_model.specs.declared.quoted.QuotedState.TheVariants.{Plain, Escape
 use Rattle.np_model.specs.declared.quoted.QuotedStep.{QuotedStep}
 use Rattle.np_model.specs.declared.quoted.QuotedStep.TheVariants.{Closed, Moved, Byte, Failed}
 
+-- a reading goes on with what was read, where there is any
 infixl 10 ◌>>=◌
 abbrev pub ◌>>=◌ : {A B : Type 0} → Option A → (A → Option B) → Option B
 None >>= f = None
 (Some x) >>= f = f x
 
+-- nothing is read, where this holds
 abbrev pub guard : Bool → Option (Unit {0})
 guard true = Some tt
 guard false = None
 
 -- ---- lines
 
+-- a byte at the front of the first line
 abbrev pub onto_first : ℕ → List (List ℕ) → List (List ℕ)
 onto_first b [] = (b ∷ []) ∷ []
 onto_first b (l ∷ ls) = (b ∷ l) ∷ ls
@@ -31,6 +34,7 @@ abbrev pub lines_of : List ℕ → List (List ℕ)
 lines_of [] = []
 lines_of (b ∷ bs) = if b == 10 then [] ∷ lines_of bs else onto_first b (lines_of bs)
 
+-- no control character: these are below 32, and 127
 abbrev pub is_plain : ℕ → Bool
 is_plain b = nat_le 32 b && not (b == 127)
 
@@ -38,12 +42,15 @@ is_plain b = nat_le 32 b && not (b == 127)
 unfoldable pub is_line : List ℕ → Bool
 is_line l = list_all is_plain l && is_utf8 l
 
+-- the byte that parts words
 abbrev pub is_space : ℕ → Bool
 is_space b = b == 32
 
+-- a line from its first word on
 abbrev pub skip_spaces : List ℕ → List ℕ
 skip_spaces l = drop (prefix_len is_space l) l
 
+-- an empty line and a comment, which begins with #, don't count
 abbrev pub is_skipped : List ℕ → Bool
 is_skipped [] = true
 is_skipped (b ∷ bs) = b == 35
@@ -58,12 +65,15 @@ counted (l ∷ ls) =
 
 -- ---- words
 
+-- the first word of a line
 abbrev pub word_of : List ℕ → List ℕ
 word_of l = before_first is_space l
 
+-- a line from its second word on
 abbrev pub behind_word : List ℕ → List ℕ
 behind_word l = skip_spaces (drop (position_or_len is_space l) l)
 
+-- a number to the limit that begins so, with these digits behind
 abbrev pub digits_from : ℕ → ℕ → List ℕ → Option ℕ
 digits_from limit n [] = Some n
 digits_from limit n (b ∷ bs) =
@@ -74,9 +84,11 @@ abbrev pub number_of : ℕ → List ℕ → Option ℕ
 number_of limit [] = None
 number_of limit (b ∷ bs) = if b == 48 && not (length bs == 0) then None else digits_from limit 0 (b ∷ bs)
 
+-- a hexadecimal digit, in lower case
 abbrev pub is_hex : ℕ → Bool
 is_hex b = nat_le 48 b && nat_le b 57 || nat_le 97 b && nat_le b 102
 
+-- what such a digit says
 abbrev pub hex_value : ℕ → ℕ
 hex_value b = if nat_le b 57 then b - 48 else b - 87
 
@@ -107,6 +119,7 @@ text_at (b ∷ bs) = do
   fits ← guard (is_text t.0)
   Some t
 
+-- the modes of npapi.h: NP_EMBED is 1, NP_FULL is 2
 abbrev pub mode_of : List ℕ → Option ℕ
 mode_of w = if bytes_eq w (codes "embed") then Some 1 else if bytes_eq w (codes "full") then Some 2 else None
 
@@ -115,11 +128,13 @@ abbrev pub parted : List ℕ → Option (List ℕ)
 parted [] = None
 parted (b ∷ bs) = if is_space b then Some (skip_spaces bs) else None
 
+-- no word is left
 abbrev pub ended : List ℕ → Bool
 ended l = length l == 0
 
 -- ---- lines of a page
 
+-- a quoted MIME type and a mode, and nothing else
 unfoldable pub create_of : List ℕ → Option Command
 create_of l = do
   mime ← text_at l
@@ -128,6 +143,7 @@ create_of l = do
   end ← guard (ended (behind_word rest))
   Some (Create mime.0 mode)
 
+-- `turn`, or `create` with its MIME type and mode
 unfoldable pub command_of : List ℕ → Option Command
 command_of l =
     if bytes_eq (word_of l) (codes "turn") then (guard (ended (behind_word l)) >>= (λ end. Some Turn))
@@ -147,6 +163,7 @@ version_of word l = do
 unfoldable pub is_word_alone : List ℕ → List ℕ → Bool
 is_word_alone word l = bytes_eq (word_of l) word && ended (behind_word l)
 
+-- one command a line
 abbrev pub commands_of : List (List ℕ) → Option (List Command)
 commands_of [] = Some []
 commands_of (l ∷ ls) = do
@@ -158,20 +175,24 @@ commands_of (l ∷ ls) = do
 abbrev pub commands_in : List ℕ → Option (List Command)
 commands_in bytes = counted (lines_of bytes) >>= commands_of
 
+-- how many instances the commands make
 abbrev pub creates : List Command → ℕ
 creates [] = 0
 creates (Create mime mode ∷ cs) = 1 + creates cs
 creates (Turn ∷ cs) = creates cs
 
+-- the page of this version whose commands these lines are; it makes at most 255 instances
 unfoldable pub body_of : ℕ × ℕ → List (List ℕ) → Option Page
 body_of head ls = do
   commands ← commands_of ls
   few ← guard (nat_le (creates commands) 255)
   Some (record { major = head.0; minor = head.1; commands = commands })
 
+-- the same of bytes
 abbrev pub body_in : ℕ × ℕ → List ℕ → Option Page
 body_in head bytes = counted (lines_of bytes) >>= body_of head
 
+-- `page` with the version, `do`, and the commands
 unfoldable pub page_of_lines : List (List ℕ) → Option Page
 page_of_lines [] = None
 page_of_lines (h ∷ []) = None
@@ -180,6 +201,7 @@ page_of_lines (h ∷ d ∷ ls) = do
   begins ← guard (is_word_alone (codes "do") d)
   body_of head ls
 
+-- the page of the lines in these bytes
 abbrev pub page_in : List ℕ → Option Page
 page_in bytes = counted (lines_of bytes) >>= page_of_lines
 

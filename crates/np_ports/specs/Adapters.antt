@@ -1,4 +1,4 @@
--- What the adapters keep of the platform's calls.
+-- What the adapters keep of the platform's calls. (This project's own.)
 use Rattle.std.specs.Prelude.{◌≡◌, ℕ, Bool, is_some, Result, Ok, Err}
 use Rattle.std.specs.declared.io.Error.{Error}
 use Rattle.std.specs.declared.io.ErrorKind.TheVariants.{NotConnected}
@@ -26,6 +26,7 @@ IsShut (Err e) = error_kind e ≡ NotConnected
 abbrev pub child_ended : {R S I O E : Type 0} → ChildPeer R S I O E → Bool
 child_ended p = p.ended
 
+-- whether a read of standard input answered the end
 abbrev pub std_ended : StdPeer → Bool
 std_ended p = p.ended
 
@@ -33,20 +34,26 @@ std_ended p = p.ended
 abbrev pub child_start_faults : {R S I O E : Type 0} → ChildPeer R S I O E → ℕ
 child_start_faults p = p.start_faults
 
+-- the failures of its reads and writes
 abbrev pub child_pipe_faults : {R S I O E : Type 0} → ChildPeer R S I O E → ℕ
 child_pipe_faults p = p.pipe_faults
 
+-- the failures of the platform's files
 abbrev pub host_faults : {R F D : Type 0} → HostFiles R F D → ℕ
 host_faults f = f.faults
 
+-- the failures of standard output as a sink
 abbrev pub stdout_faults : StdoutSink → ℕ
 stdout_faults s = s.faults
 
+-- the starts that were asked of a peer that is never started
 abbrev pub std_start_faults : StdPeer → ℕ
 std_start_faults p = p.start_faults
 
+-- the failures of standard input and output as a peer
 abbrev pub std_pipe_faults : StdPeer → ℕ
 std_pipe_faults p = p.pipe_faults
 
+-- the failures of a file as a sink
 abbrev pub file_sink_faults : {R F D : Type 0} → FileSink R F D → ℕ
 file_sink_faults s = s.faults

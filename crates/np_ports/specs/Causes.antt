@@ -1,4 +1,4 @@
--- When a call of the environment may answer an error.
+-- When a call of the environment may answer an error. (This project's own.)
 use Rattle.std.specs.Prelude.{ℕ, ◌+◌, ◌-◌, ◌^◌, ◌≤◌, min, Result, Ok, Err}
 use Rattle.np_ports.specs.declared.error.PortError.{PortError}
 use Rattle.np_ports.specs.declared.error.PortError.TheVariants.{Failed, NoMemory}

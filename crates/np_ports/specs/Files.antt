@@ -1,4 +1,4 @@
--- What files tell of themselves.
+-- What files tell of themselves. (This project's own.)
 use Rattle.std.specs.Prelude.{◌≡◌, ℕ, ◌≤◌, List, [], ◌∷◌, ◌++◌, length, take, drop, Option, Some, None, Result, Ok, Err}
 use Rattle.np_ports.specs.declared.error.PortError.{PortError}
 use Rattle.np_ports.specs.declared.error.PortError.TheVariants.{Failed, NoMemory}

@@ -1,4 +1,4 @@
--- What the forms in memory tell.
+-- What the forms in memory tell. (This project's own.)
 use Rattle.std.specs.Prelude.{◌≡◌, Bool, true, false, ℕ, List, [], ◌∷◌, ◌++◌, length, map, min, take, drop, Option, Some, None, Result, Ok, Err, String, string_bytes, bytes_eq, if◌then◌else◌}
 use Rattle.std.specs.Global.{Vec, Global}
 use Rattle.np_ports.specs.declared.error.PortError.{PortError}

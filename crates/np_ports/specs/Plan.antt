@@ -1,4 +1,4 @@
--- Which calls of an object in memory fail, and what it counts.
+-- Which calls of an object in memory fail, and what it counts. (This project's own.)
 use Rattle.std.specs.Prelude.{◌==◌, ℕ, List, ◌+◌, ◌-◌, ◌^◌, Bool, true, false, min, Result, Ok, Err}
 use Rattle.std.specs.List.{list_any}
 use Rattle.np_ports.specs.declared.error.PortError.{PortError}
@@ -10,6 +10,7 @@ pub record Plan : Type 0 where
   pub failing : List ℕ
   pub next : ℕ
 
+-- the plan that a count of calls stands for
 abbrev pub plan_of : CallPlan → Plan
 plan_of p = record { failing = p.fail_at.items; next = p.next }
 

@@ -1,4 +1,4 @@
--- What a sink tells of itself: the bytes that it took.
+-- What a sink tells of itself: the bytes that it took. (This project's own.)
 use Rattle.std.specs.Prelude.{◌≡◌, ℕ, List, ◌++◌, take, Option, Some, None, Result, Ok, Err}
 use Rattle.np_ports.specs.declared.error.PortError.{PortError}
 

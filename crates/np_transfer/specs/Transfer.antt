@@ -1,4 +1,4 @@
--- What whole transfers do.
+-- What whole transfers do. (This project's own.)
 use Rattle.std.specs.Prelude.{◌≡◌, ℕ, List, [], ◌∷◌, ◌++◌, take, Option, Some, Result, Ok, Err}
 use Rattle.std.specs.Global.{Vec}
 use Rattle.np_ports.specs.declared.error.PortError.{PortError}

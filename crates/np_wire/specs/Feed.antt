@@ -1,4 +1,4 @@
--- What a feed has, and what it answers.
+-- What a feed has, and what it answers. (This project's own.)
 use Rattle.std.specs.Prelude.{◌≡◌, ℕ, ◌+◌, ◌-◌, ◌≤◌, List, ◌++◌, length, drop, Option, Some, None, Result, Ok, Err}
 use Rattle.np_model.specs.declared.message.Message.{Message}
 use Rattle.np_model.specs.Encoding.{encoding, KeepsFormat, IsTyped}
@@ -32,6 +32,7 @@ FrontIs seen bytes (Ok (Some m)) = seen ≡ Whole m.0 (drop m.1 bytes)
 FrontIs seen bytes (Err (Wire e)) = seen ≡ Bad e
 FrontIs seen bytes (Err NoMemory) = Unit {0}
 
+-- the answer for bytes of which the first is at this place of the stream
 abbrev pub FrontGives : ℕ → List ℕ → Result (Option (Message × ℕ)) FeedError → Type 0
 FrontGives at bytes r = FrontIs (front at bytes) bytes r
 
@@ -42,6 +43,7 @@ SizedIs seen rest (Ok (Some m)) = (4 ≤ m.1) × (seen ≡ Whole m.0 (drop (m.1 
 SizedIs seen rest (Err (Wire e)) = seen ≡ Bad e
 SizedIs seen rest (Err NoMemory) = Unit {0}
 
+-- the same for the bytes behind a length
 abbrev pub SizedGives : ℕ → ℕ → List ℕ → Result (Option (Message × ℕ)) FeedError → Type 0
 SizedGives at n rest r = SizedIs (front_sized at n rest) rest r
 

@@ -1,4 +1,4 @@
--- When bytes are awaited, when they are refused, and which bytes are those of messages.
+-- When bytes are awaited, when they are refused, and which bytes are those of messages. (This project's own.)
 use Rattle.std.specs.Prelude.{◌≡◌, ℕ, ◌+◌, ◌<◌, ◌≤◌, ◌↔◌, ◌⊎◌, List, length, take}
 use Rattle.std.specs.Int.{w32, from_be_bytes}
 use Rattle.np_model.specs.declared.wire.WireKind.TheVariants.{Length}
@@ -24,6 +24,7 @@ WaitsExactly at bytes = (front at bytes ≡ Partial) ↔ IsCutShort bytes
 abbrev pub HasBadLength : List ℕ → Type 0
 HasBadLength bytes = (4 ≤ length bytes) × ((length_of bytes < 4) ⊎ (32768 < length_of bytes))
 
+-- the bytes are refused for their length
 abbrev pub IsLengthRefused : ℕ → List ℕ → Type 0
 IsLengthRefused at bytes = (e : WireError) × (front at bytes ≡ Bad e) × (e.kind ≡ Length)
 

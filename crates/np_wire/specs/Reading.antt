@@ -1,4 +1,4 @@
--- What the reader of an item answers.
+-- What the reader of an item answers. (This project's own.)
 use Rattle.std.specs.Prelude.{◌≡◌, ℕ, List, Some, slice_get, Result, Ok, Err}
 use Rattle.np_model.specs.declared.wire.WireError.{WireError}
 use Rattle.np_wire.specs.declared.error.FeedError.{FeedError}

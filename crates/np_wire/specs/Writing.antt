@@ -1,4 +1,4 @@
--- What an appending leaves.
+-- What an appending leaves. (This project's own.)
 use Rattle.std.specs.Prelude.{◌≡◌, ℕ, List, ◌++◌}
 
 -- the old bytes, and then those that were added
