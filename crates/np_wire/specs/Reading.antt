@@ -1,5 +1,7 @@
 -- What the reader of an item answers. (This project's own.)
-use Rattle.std.specs.Prelude.{◌≡◌, ℕ, List, Some, slice_get, Result, Ok, Err}
+use Rattle.std.specs.Prelude.{◌≡◌, ℕ, true, List, take, drop, Some, slice_get, Result, Ok, Err}
+use Rattle.std.specs.Int.{w16, from_be_bytes}
+use Rattle.np_values.specs.Text.{is_text}
 use Rattle.np_model.specs.declared.wire.WireError.{WireError}
 use Rattle.np_wire.specs.declared.error.FeedError.{FeedError}
 use Rattle.np_wire.specs.declared.error.FeedError.TheVariants.{Wire, NoMemory}
@@ -19,6 +21,10 @@ abbrev pub WantsMemoryOnly : {X : Type 0} → Type 0 → Result X FeedError → 
 WantsMemoryOnly P (Ok x) = Unit {0}
 WantsMemoryOnly P (Err (Wire e)) = Unit {0}
 WantsMemoryOnly P (Err NoMemory) = P
+
+-- a text begins the bytes: its length, and that many bytes of text
+abbrev pub BeginsText : List ℕ → Type 0
+BeginsText bytes = is_text (take (from_be_bytes w16 (take 2 bytes)) (drop 2 bytes)) ≡ true
 
 -- the first byte is the kind of NPP_New, the one message that has texts
 abbrev pub BeginsNew : List ℕ → Type 0

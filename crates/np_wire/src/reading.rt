@@ -4,7 +4,7 @@ ghost use Rattle.std.specs.Prelude.{◌≡◌, ◌+◌, ◌≤◌, ◌<◌, leng
 ghost use Rattle.std.specs.Int.{w16, w32, from_be_bytes};
 ghost use Rattle.np_model.specs.declared.wire.WireKind.TheVariants.{Item, Rest};
 ghost use Rattle.np_model.specs.Decoding.{fault as fault_of, byte_item, releases_item, depth_of, depth_item, read_text, read_texts, read_hello, read_new, read_destroy, read_code, read_payload, is_kind, kind_item, read_body};
-ghost use Rattle.np_wire.specs.Reading.{Gives, WantsMemoryOnly, BeginsNew};
+ghost use Rattle.np_wire.specs.Reading.{Gives, WantsMemoryOnly, BeginsText, BeginsNew};
 
 use crate::FeedError;
 use np_model::{Depth, Extent, Message, Payload, Texts, WireError, WireKind};
@@ -86,6 +86,8 @@ fn depth(extent: Extent, bytes: &[u8]) -> Result<(Depth, &[u8]), FeedError>
 fn text(alloc: Global, extent: Extent, bytes: &[u8]) -> Result<(Text, &[u8]), FeedError>
     requires { length bytes.now ≤ extent.end }
     ensures exact { Gives (λ x. (x.0, x.1.now)) result (read_text extent bytes.now) }
+    // Bytes that are no text take no memory.
+    ensures memory { WantsMemoryOnly (BeginsText bytes.now) result }
     ensures shorter { IfOk result (λ x. length x.1.now ≤ length bytes.now) }
 {
     if bytes.len() < 2 {
