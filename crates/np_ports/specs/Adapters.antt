@@ -54,6 +54,10 @@ std_start_faults p = p.start_faults
 abbrev pub std_pipe_faults : StdPeer → ℕ
 std_pipe_faults p = p.pipe_faults
 
+-- whether the file was made, and is open
+abbrev pub file_sink_is_open : {R F D : Type 0} → FileSink R F D → Bool
+file_sink_is_open s = is_some s.open
+
 -- the failures of a file as a sink
 abbrev pub file_sink_faults : {R F D : Type 0} → FileSink R F D → ℕ
 file_sink_faults s = s.faults

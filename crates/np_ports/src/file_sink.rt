@@ -1,7 +1,8 @@
 //! A sink that is a file.
 
-ghost use Rattle.std.specs.Prelude.{◌≡◌, ◌≤◌, None, length, IfOk};
-ghost use Rattle.np_ports.specs.Adapters.{file_sink_faults};
+ghost use Rattle.std.specs.Prelude.{◌≡◌, ◌<◌, ◌≤◌, true, false, None, length, IfOk, OnOk};
+ghost use Rattle.np_ports.specs.Causes.{HasCause, counted};
+ghost use Rattle.np_ports.specs.Adapters.{file_sink_is_open, file_sink_faults};
 
 use crate::faults::{fail, refuse};
 use crate::{PortError, Sink};
@@ -21,7 +22,8 @@ pub struct FileSink<R: rt::Files + Drop> {
 impl<R: rt::Files + Drop> FileSink<R> {
     /// The named file, not made yet.
     pub fn new(runtime: R, name: String) -> FileSink<R>
-        ensures { file_sink_faults result ≡ 0 }
+        ensures open { file_sink_is_open result ≡ false }
+        ensures faults { file_sink_faults result ≡ 0 }
     {
         FileSink {
             runtime,
@@ -35,6 +37,8 @@ impl<R: rt::Files + Drop> FileSink<R> {
     fn write_some(&mut self, bytes: &[u8]) -> io::Result<usize>
         ensures bound { IfOk result (λ n. n ≤ length bytes.now) }
         ensures faults { file_sink_faults self.new ≡ file_sink_faults self.old }
+        ensures open { OnOk result (file_sink_is_open self.new ≡ true) }
+        ensures kept { file_sink_is_open self.old ≡ true → file_sink_is_open self.new ≡ true }
     {
         let mut file = match self.open.take() {
             Some(file) => file,
@@ -51,7 +55,16 @@ impl<R: rt::Files + Drop> Sink for FileSink<R> {
 
     ghost faults = { λ s. file_sink_faults s };
 
-    fn write(&mut self, bytes: &[u8]) -> Result<usize, PortError> {
+    fn write(&mut self, bytes: &[u8]) -> Result<usize, PortError>
+        requires { 0 < length bytes.now }
+        ensures bound { IfOk result (λ n. (0 < n) × (n ≤ length bytes.now)) }
+        ensures cause { HasCause (file_sink_faults self.old) (file_sink_faults self.new) result }
+        ensures count { file_sink_faults self.new ≡ counted (file_sink_faults self.old) result }
+
+        // It stays open, also where a write failed.
+        ensures open { OnOk result (file_sink_is_open self.new ≡ true) }
+        ensures kept { file_sink_is_open self.old ≡ true → file_sink_is_open self.new ≡ true }
+    {
         match self.write_some(bytes) {
             Ok(0) => fail(&mut self.faults),
             Ok(n) => Ok(n),
