@@ -1,6 +1,6 @@
-ghost use Rattle.std.specs.Prelude.{◌≡◌, [], ◌∷◌, ◌++◌, OnOk, OnErr};
+ghost use Rattle.std.specs.Prelude.{◌≡◌, [], ◌∷◌, ◌++◌, ◌↔◌, length, IsTrue, IfOk, OnOk, OnErr};
 
-use crate::NoMemory;
+use crate::{NoMemory, TryCopy};
 use std::alloc::Global;
 use std::marker::Model;
 
@@ -34,6 +34,20 @@ impl<T> Seq<T> {
     {
         self.items.as_slice()
     }
+
+    /// How many items it has.
+    pub fn len(&self) -> usize
+        ensures value { result ≡ length self.now }
+    {
+        self.items.len()
+    }
+
+    /// Whether it has no item.
+    pub fn is_empty(&self) -> bool
+        ensures value { IsTrue result ↔ (self.now ≡ []) }
+    {
+        self.items.is_empty()
+    }
 }
 
 impl<T: Drop> Seq<T> {
@@ -44,5 +58,16 @@ impl<T: Drop> Seq<T> {
     {
         self.items.push(item)?;
         Ok(())
+    }
+}
+
+impl<T: TryCopy + Drop> TryCopy for Seq<T> {
+    fn try_copy(&self, alloc: Global) -> Result<Seq<T>, NoMemory> {
+        let items = self.as_slice();
+        let mut copy = Seq::new(alloc);
+        for item in items {
+            copy.push(item.try_copy(alloc)?)?;
+        }
+        Ok(copy)
     }
 }

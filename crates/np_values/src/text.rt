@@ -1,10 +1,11 @@
-ghost use Rattle.std.specs.Prelude.{◌≡◌, ◌<◌, ◌≤◌, ◌↔◌, length, IfOk, IsErrOf, true, false};
+ghost use Rattle.std.specs.Prelude.{◌≡◌, ◌<◌, ◌≤◌, ◌↔◌, length, IfOk, IsErrOf, IsTrue, true, false};
 ghost use Rattle.std.specs.Str.{is_utf8};
 ghost use Rattle.np_values.specs.Text.{is_text};
 
-use crate::NoMemory;
+use crate::{NoMemory, TryCopy};
 use std::alloc::{AllocError, Global};
 use std::marker::Model;
+use thiserror::Error;
 
 /// A text value: at most 2,048 bytes of UTF-8, seen as the list of its bytes.
 /// (This project's own limit; npruntime.h, NPString, has none.)
@@ -26,10 +27,15 @@ impl Model for Text {
 }
 
 /// Why bytes are no text, or that memory ran out.
-#[derive(Clone, Copy, Debug, PartialEq, Eq)]
+#[derive(Clone, Copy, Debug, PartialEq, Eq, Error)]
 pub enum TextError {
+    /// There are more than 2,048 bytes.
+    #[error("TooLong")]
     TooLong,
+    /// There are no more, but they aren't UTF-8.
+    #[error("NotUtf8")]
     NotUtf8,
+    #[error("NoMemory")]
     NoMemory,
 }
 
@@ -88,4 +94,33 @@ impl Text {
             text: String::from_str(alloc, self.text.as_str())?,
         })
     }
+}
+
+impl TryCopy for Text {
+    fn try_copy(&self, alloc: Global) -> Result<Text, NoMemory> {
+        Text::try_copy(self, alloc)
+    }
+}
+
+impl PartialEq for Text {
+    ghost use Rattle.std.specs.Str.{bytes_eq};
+    ghost use Rattle.std.specs.Cmp.{partial_equiv_from_equiv};
+    ghost use Rattle.std.specs.Cmp.Lexicographic.{nat_list_eq_equiv};
+
+    ghost eq = { bytes_eq };
+
+    ghost laws = { partial_equiv_from_equiv nat_list_eq_equiv };
+
+    fn eq(&self, other: &Text) -> bool
+        ensures value { result ≡ bytes_eq self.now other.now }
+        ensures exact { IsTrue result ↔ (self.now ≡ other.now) }
+    {
+        self.as_str() == other.as_str()
+    }
+}
+
+impl Eq for Text {
+    ghost use Rattle.std.specs.Cmp.Lexicographic.{nat_list_eq_equiv};
+
+    ghost laws = { nat_list_eq_equiv };
 }
