@@ -1,0 +1,3 @@
+pub mod IdKey
+pub mod IdText
+pub mod Idents
