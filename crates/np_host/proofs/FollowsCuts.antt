@@ -8,13 +8,13 @@ use Rattle.np_model.specs.HostRun.{IsPluginText}
 use Rattle.np_ports.specs.Peer.{Known, started}
 use Rattle.np_ports.specs.Files.{Contents}
 use Rattle.np_script.specs.Canonical.{PagesAreWellFormed}
-use Rattle.np_prefix.specs.Alone.{ComesTo}
+use Rattle.np_model.specs.Alone.{page_role, ComesTo}
 use Rattle.np_prefix.specs.Prefix.{WaitsLaw, EndsLaw, BeginsLaw, ComesToRestLaw, NeverRefusesLaw, FewBytesLaw}
 use Rattle.np_ending.specs.declared.ending.Ending.{Ending}
 use Rattle.np_ending.specs.declared.ending.Ending.TheVariants as endings
 use Rattle.np_host.specs.Words.{RunWords, run_words}
-use Rattle.np_host.specs.Session.{Exchanged, Interrupted}
-use Rattle.np_host.specs.Closing.{OutcomeOf, CutShort}
+use Rattle.np_exchange.specs.Session.{Exchanged, Interrupted}
+use Rattle.np_host.specs.Outcomes.{OutcomeOf, CutShort}
 use Rattle.np_ending.specs.Causes.{AddsPart}
 use Rattle.np_host.specs.Host.{OfWords, RunCut, CutWords}
 use Rattle.np_host.specs.Main.{HostDone, HostLost, HostBroken, HostInterrupted, HostCut, ForEachPlugin}
@@ -31,10 +31,10 @@ pub record RunLaws : Type 0 where
   pub never : NeverRefusesLaw
   pub few : FewBytesLaw
 
-interrupted-follows : RunLaws → (page : Page) (plugin : Plugin) (old : Known) (first : List ℕ) (new : Known) (sink given : List ℕ) → Interrupted page old first new sink → new.given ≡ old.given ++ given → IsPluginText page plugin given → HostInterrupted page plugin old first new sink given
+interrupted-follows : RunLaws → (page : Page) (plugin : Plugin) (old : Known) (first : List ℕ) (new : Known) (sink given : List ℕ) → Interrupted (page_role page) old first new sink → new.given ≡ old.given ++ given → IsPluginText page plugin given → HostInterrupted page plugin old first new sink given
 interrupted-follows laws page plugin old first new sink given c e t =
     let same = same-given page old new c.got c.sent given c.exchanged e in
-    let at = subst (λ (l : List ℕ). ComesTo page l c.side) same c.comes_to in
+    let at = subst (λ (l : List ℕ). ComesTo (page_role page) l c.side) same c.comes_to in
     let r = laws.rests page plugin given t in
     let b = laws.begins page plugin given r.0 c.side r.1 t at r.2 r.3 in
     record {
@@ -47,10 +47,10 @@ interrupted-follows laws page plugin old first new sink given c e t =
       lines_part = begins-then r.1.journal c.side.journal c.lines (record { rest = b.0.0; parts = b.0.1 }) c.lines_part;
       printed = c.printed;
       taken_part = begins-then (encodings r.1.sent) (encodings c.side.sent) c.sent (messages-begin r.1.sent c.side.sent b.1.0 b.1.1) c.sent_part;
-      exchange = exchange-follows laws.waits page plugin old new given c.sent t (subst (λ (l : List ℕ). Exchanged page old new l c.sent) same c.exchanged);
+      exchange = exchange-follows laws.waits page plugin old new given c.sent t (subst (λ (l : List ℕ). Exchanged (page_role page) old new l c.sent) same c.exchanged);
     }
 
-outcome-follows : RunLaws → (page : Page) (plugin : Plugin) (old : Known) (first : List ℕ) (new : Known) (sink given : List ℕ) (ending : Ending) → length page.commands ≤ 1048576 → OutcomeOf page old first new sink ending → new.given ≡ old.given ++ given → IsPluginText page plugin given
+outcome-follows : RunLaws → (page : Page) (plugin : Plugin) (old : Known) (first : List ℕ) (new : Known) (sink given : List ℕ) (ending : Ending) → length page.commands ≤ 1048576 → OutcomeOf page ending old first new sink → new.given ≡ old.given ++ given → IsPluginText page plugin given
     → HostDone page plugin old first new sink given ⊎ (HostLost page plugin old first new sink given ⊎ HostBroken page plugin old first new sink given)
 outcome-follows laws page plugin old first new sink given endings.Done short o e t = inl (done-follows laws.waits laws.ends page plugin old first new sink given o e t)
 outcome-follows laws page plugin old first new sink given endings.Unsent short o e t = inr (inr (broken-follows laws.waits laws.ends page plugin old first new sink given o e t))
@@ -60,7 +60,7 @@ outcome-follows laws page plugin old first new sink given (endings.Refused r) sh
 
 cut-follows : RunLaws → (pipe_failed peer_ended : Type 0) (page : Page) (old : Known) (first : List ℕ) (new : Known) (sink : List ℕ) → length page.commands ≤ 1048576 → CutShort pipe_failed peer_ended page old first new sink → ForEachPlugin HostCut page old first new sink
 cut-follows laws pipe_failed peer_ended page old first new sink short (inl c) plugin given e t = inl (interrupted-follows laws page plugin old first new sink given c e t)
-cut-follows laws pipe_failed peer_ended page old first new sink short (inr (ending, reason, c)) plugin given e t = inr (c.whole, c.part, c.first_stays, outcome-follows laws page plugin old first new c.whole given ending short c.outcome e t)
+cut-follows laws pipe_failed peer_ended page old first new sink short (inr (ending, reason, c)) plugin given e t = inr (c.whole, c.part, c.first_stays, outcome-follows laws page plugin old first new c.whole given ending short c.reached e t)
 
 -- ---- of a run of the host
 

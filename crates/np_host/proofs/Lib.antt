@@ -1,12 +1,9 @@
 pub mod Closings
-pub mod Exchanges
 pub mod Follows
 pub mod Pages
 pub mod PlainWords
 pub mod RunWords
 pub mod UnrefusedRuns
-pub mod Growth
-pub mod Cuts
 pub mod ClosingCuts
 pub mod PageCuts
 pub mod FollowsCuts

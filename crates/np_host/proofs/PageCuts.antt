@@ -10,8 +10,8 @@ use Rattle.np_ports.specs.declared.error.PortError.{PortError}
 use Rattle.np_ports.specs.declared.error.PortError.TheVariants as ports
 use Rattle.np_ending.specs.Causes.{AddsPart}
 use Rattle.np_host.specs.Words.{RunWords, run_words}
-use Rattle.np_host.specs.Session.{Told}
-use Rattle.np_host.specs.Closing.{CutShort}
+use Rattle.np_exchange.specs.Session.{Told}
+use Rattle.np_host.specs.Outcomes.{CutShort}
 use Rattle.np_host.specs.Host.{IsDueEarly, RunCut, OfWords, CutWords}
 use Rattle.np_ending.proofs.Parts.{nothing-added}
 use Rattle.np_host.proofs.Pages.{WasRead, page-is, no-page}
@@ -52,7 +52,7 @@ unstarted program known0 known1 e is starts old k = subst (λ (s : Option Known)
 
 -- of its faults, those of the pipes are counted from before the start on, which leaves them as they were
 pub page-cut : (before begun now : ℕ) (peer_ended : Type 0) (name : List ℕ) (program : List (List ℕ)) (file_failed start_failed : Type 0) (files0 files1 : Option Contents) (bytes seen : List ℕ) (page : Page) (known0 known1 known2 : Option Known) (taken0 taken1 : Option (List ℕ)) (x : Unit {0})
-    → begun ≡ before → WasRead files0 files1 name bytes → seen ≡ bytes → page_of seen ≡ Some page → Starts known0 known1 (Ok x) program → Told (CutShort (Rose begun now) peer_ended) page known1 known2 taken0 taken1 → RunCut (CutShort (Rose before now) peer_ended) name program file_failed start_failed files0 known0 known2 taken0 taken1
+    → begun ≡ before → WasRead files0 files1 name bytes → seen ≡ bytes → page_of seen ≡ Some page → Starts known0 known1 (Ok x) program → Told (CutShort (Rose begun now) peer_ended page) known1 known2 taken0 taken1 → RunCut (CutShort (Rose before now) peer_ended) name program file_failed start_failed files0 known0 known2 taken0 taken1
 page-cut before begun now peer_ended name program file_failed start_failed files0 files1 bytes seen page known0 known1 known2 taken0 taken1 x stays read same some starts session f old first told k o =
     let there : page_of (f name) ≡ Some page = sym (page-is files0 files1 name bytes seen f read same told) ∙ some in
     let is_started : known1 ≡ Some (started old program) = subst (λ (s : Option Known). Starts s known1 (Ok x) program) k starts in

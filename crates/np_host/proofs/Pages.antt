@@ -10,7 +10,8 @@ use Rattle.np_ports.specs.Peer.{Known, Starts, started}
 use Rattle.np_ports.specs.Files.{Contents}
 use Rattle.np_host.specs.Host.{RunsPage, IsNoPage, OnlyNoPage}
 use Rattle.np_ending.specs.Status.{IsRunStatus}
-use Rattle.np_host.specs.Closing.{SessionOutcome}
+use Rattle.np_exchange.specs.Closing.{EndsWith}
+use Rattle.np_host.specs.Outcomes.{OutcomeOf}
 
 too-long : (bytes : List ℕ) → 1048576 < length bytes → page_of bytes ≡ None
 unfolding page_of
@@ -46,7 +47,7 @@ pub only-page : (files0 files1 : Option Contents) (name bytes seen : List ℕ) (
 only-page files0 files1 name bytes seen page status read same some f told none = absurd (some-none page (page_of seen) some (page-is files0 files1 name bytes seen f read same told ∙ none))
 
 pub runs : (name : List ℕ) (program : List (List ℕ)) (files0 files1 : Option Contents) (bytes seen : List ℕ) (page : Page) (known0 known1 known2 : Option Known) (taken0 taken1 : Option (List ℕ)) (status : ℕ) (x : Unit {0})
-    → WasRead files0 files1 name bytes → seen ≡ bytes → page_of seen ≡ Some page → Starts known0 known1 (Ok x) program → SessionOutcome page known1 known2 taken0 taken1 status → RunsPage name program files0 known0 known2 taken0 taken1 status
+    → WasRead files0 files1 name bytes → seen ≡ bytes → page_of seen ≡ Some page → Starts known0 known1 (Ok x) program → EndsWith (OutcomeOf page) known1 known2 taken0 taken1 status → RunsPage name program files0 known0 known2 taken0 taken1 status
 runs name program files0 files1 bytes seen page known0 known1 known2 taken0 taken1 status x read same some starts outcome is f old first told k o =
     let there : page_of (f name) ≡ Some page = sym (page-is files0 files1 name bytes seen f read same told) ∙ some in
     let begun : known1 ≡ Some (started old program) = subst (λ (s : Option Known). Starts s known1 (Ok x) program) k starts in

@@ -3,53 +3,45 @@ use Rattle.std.proofs.Common.{◌≡◌, ℕ, ◌^◌, ◌<◌, List, ◌++◌, 
 use Rattle.np_model.specs.declared.script.Page.{Page}
 use Rattle.np_ports.specs.Peer.{Known, started}
 use Rattle.np_ports.specs.Files.{Contents}
-use Rattle.np_prefix.specs.Alone.{RefusesNothing}
+use Rattle.np_model.specs.Alone.{page_role, RefusesNothing}
 use Rattle.np_prefix.specs.Prefix.{RestsUnrefusedLaw}
 use Rattle.np_ending.specs.declared.ending.Ending.{Ending}
 use Rattle.np_ending.specs.declared.ending.Ending.TheVariants as endings
 use Rattle.np_host.specs.Words.{RunWords, run_words}
-use Rattle.np_host.specs.Session.{PipeFailed}
 use Rattle.np_ending.specs.Status.{status_of, IsRunStatus}
-use Rattle.np_host.specs.Closing.{OutcomeOf}
-use Rattle.np_host.specs.Host.{OfWords, RunsPage, RunsWords, IsUnrefusedStatus, RunsUnrefused, UnrefusedWords}
+use Rattle.np_model.specs.PagePlan.{PageControl}
+use Rattle.np_exchange.specs.Closing.{IsUnrefusedStatus}
+use Rattle.np_exchange.proofs.Sessions.{never-seven, unrefused-run}
+use Rattle.np_host.specs.Outcomes.{PipeFailed, OutcomeOf}
+use Rattle.np_host.specs.Host.{OfWords, RunsPage, RunsWords, RunsUnrefused, UnrefusedWords}
 
 -- what the peer gave, of which nothing is refused
 record Unrefused (page : Page) (old new : Known) (status : ℕ) : Type 0 where
   got : List ℕ
   given : new.given ≡ old.given ++ got
-  nothing : RefusesNothing page got
+  nothing : RefusesNothing (page_role page) got
   below_limit : status ≡ 5 → length got < 2 ^ 40
 
-never-seven : IsUnrefusedStatus 7 → ⊥
-never-seven (inl e) = absurd (omega arith)
-never-seven (inr (inl e)) = absurd (omega arith)
-never-seven (inr (inr e)) = absurd (omega arith)
+failed-unrefused : RestsUnrefusedLaw PageControl → (page : Page) (old : Known) (first : List ℕ) (new : Known) (sink : List ℕ) → PipeFailed page old first new sink → Unrefused page old new 6
+failed-unrefused law page old first new sink o = record { got = o.got; given = o.exchanged.given; nothing = law (page_role page) o.got o.side (⊎_elim (λ w. inl w.0) (λ e. inr e.0) o.rests); below_limit = λ e. absurd (omega arith) }
 
-failed-unrefused : RestsUnrefusedLaw → (page : Page) (old : Known) (first : List ℕ) (new : Known) (sink : List ℕ) → PipeFailed page old first new sink → Unrefused page old new 6
-failed-unrefused law page old first new sink o = record { got = o.got; given = o.exchanged.given; nothing = law page o.got o.side (⊎_elim (λ w. inl w.0) (λ e. inr e.0) o.rests); below_limit = λ e. absurd (omega arith) }
-
-outcome-unrefused : RestsUnrefusedLaw → (page : Page) (old : Known) (first : List ℕ) (new : Known) (sink : List ℕ) (ending : Ending) → IsUnrefusedStatus (status_of ending) → OutcomeOf page old first new sink ending → Unrefused page old new (status_of ending)
-outcome-unrefused law page old first new sink endings.Done is o = record { got = o.got; given = o.exchanged.given; nothing = law page o.got o.side (inr o.ends); below_limit = λ e. absurd (omega arith) }
+outcome-unrefused : RestsUnrefusedLaw PageControl → (page : Page) (old : Known) (first : List ℕ) (new : Known) (sink : List ℕ) (ending : Ending) → IsUnrefusedStatus (status_of ending) → OutcomeOf page ending old first new sink → Unrefused page old new (status_of ending)
+outcome-unrefused law page old first new sink endings.Done is o = record { got = o.got; given = o.exchanged.given; nothing = law (page_role page) o.got o.side (inr o.ends); below_limit = λ e. absurd (omega arith) }
 outcome-unrefused law page old first new sink endings.Unsent is o = failed-unrefused law page old first new sink o
-outcome-unrefused law page old first new sink endings.Ended is o = record { got = o.got; given = o.exchanged.given; nothing = law page o.got o.side (inl o.waits); below_limit = λ e. o.below_limit }
+outcome-unrefused law page old first new sink endings.Ended is o = record { got = o.got; given = o.exchanged.given; nothing = law (page_role page) o.got o.side (inl o.waits); below_limit = λ e. o.below_limit }
 outcome-unrefused law page old first new sink endings.Failed is o = failed-unrefused law page old first new sink o
 outcome-unrefused law page old first new sink (endings.Refused r) is o = absurd (never-seven is)
 
-run-status : (status : ℕ) → IsUnrefusedStatus status → IsRunStatus status
-run-status status (inl e) = inl e
-run-status status (inr (inl e)) = inr (inl e)
-run-status status (inr (inr e)) = inr (inr (inl e))
-
-page-unrefused : RestsUnrefusedLaw → (name : List ℕ) (program : List (List ℕ)) (files : Option Contents) (known0 known1 : Option Known) (taken0 taken1 : Option (List ℕ)) (status : ℕ) → IsUnrefusedStatus status → RunsPage name program files known0 known1 taken0 taken1 status → RunsUnrefused name files known0 known1 taken0 status
+page-unrefused : RestsUnrefusedLaw PageControl → (name : List ℕ) (program : List (List ℕ)) (files : Option Contents) (known0 known1 : Option Known) (taken0 taken1 : Option (List ℕ)) (status : ℕ) → IsUnrefusedStatus status → RunsPage name program files known0 known1 taken0 taken1 status → RunsUnrefused name files known0 known1 taken0 status
 page-unrefused law name program files known0 known1 taken0 taken1 status is runs f old first told k o =
-    let x = runs (run-status status is) f old first told k o in
+    let x = runs (unrefused-run status is) f old first told k o in
     let y = x.4 in
     let u = outcome-unrefused law x.0 (started old program) first y.0 y.1 x.1 (subst IsUnrefusedStatus x.3 is) y.4 in
     (x.0, y.0, u.got, x.2, y.2, u.given, u.nothing, λ e. u.below_limit (sym x.3 ∙ e))
 
-pub words-unrefused : RestsUnrefusedLaw → (words : List (List ℕ)) (files : Option Contents) (known0 known1 : Option Known) (taken0 taken1 : Option (List ℕ)) (status : ℕ) → IsUnrefusedStatus status → RunsWords words files known0 known1 taken0 taken1 status → UnrefusedWords words files known0 known1 taken0 status
+pub words-unrefused : RestsUnrefusedLaw PageControl → (words : List (List ℕ)) (files : Option Contents) (known0 known1 : Option Known) (taken0 taken1 : Option (List ℕ)) (status : ℕ) → IsUnrefusedStatus status → RunsWords words files known0 known1 taken0 taken1 status → UnrefusedWords words files known0 known1 taken0 status
 words-unrefused law words files known0 known1 taken0 taken1 status is runs = at (run_words words) runs
   where
     at : (o : Option RunWords) → OfWords o (λ r. RunsPage r.page r.program files known0 known1 taken0 taken1 status) (IsRunStatus status → ⊥) → OfWords o (λ r. RunsUnrefused r.page files known0 known1 taken0 status) ⊥
-    at None h = h (run-status status is)
+    at None h = h (unrefused-run status is)
     at (Some r) h = page-unrefused law r.page r.program files known0 known1 taken0 taken1 status is h

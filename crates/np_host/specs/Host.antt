@@ -7,30 +7,26 @@ use Rattle.np_ports.specs.Peer.{Known, started}
 use Rattle.np_ports.specs.Files.{Contents}
 use Rattle.np_ports.specs.declared.file_call.FileCall.{FileCall}
 use Rattle.np_ports.specs.declared.file_call.FileCall.TheVariants.{Read}
-use Rattle.np_prefix.specs.Alone.{RefusesNothing}
+use Rattle.np_model.specs.Alone.{page_role, RefusesNothing}
 use Rattle.np_ending.specs.declared.ending.Ending.{Ending}
 use Rattle.np_ending.specs.Causes.{Adds, AddsPart, BeginsWith}
 use Rattle.np_host.specs.Words.{RunWords, run_words}
 use Rattle.np_ending.specs.Status.{status_of, IsRunStatus}
-use Rattle.np_host.specs.Closing.{OutcomeOf}
+use Rattle.np_host.specs.Outcomes.{OutcomeOf}
 
 -- Where the files, the peer and the sink tell: the page of the file ran over a peer that was started once, with the words of the program.
 abbrev pub RunsPage : List ℕ → List (List ℕ) → Option Contents → Option Known → Option Known → Option (List ℕ) → Option (List ℕ) → ℕ → Type 0
 RunsPage name program files known0 known1 taken0 taken1 status =
     IsRunStatus status → (f : Contents) (old : Known) (first : List ℕ) → files ≡ Some f → known0 ≡ Some old → taken0 ≡ Some first →
     (page : Page) × (ending : Ending) × (page_of (f name) ≡ Some page) × (status ≡ status_of ending)
-    × ((new : Known) × (sink : List ℕ) × (known1 ≡ Some new) × (taken1 ≡ Some sink) × OutcomeOf page (started old program) first new sink ending)
-
--- the statuses at which nothing was refused
-abbrev pub IsUnrefusedStatus : ℕ → Type 0
-IsUnrefusedStatus status = (status ≡ 0) ⊎ ((status ≡ 5) ⊎ (status ≡ 6))
+    × ((new : Known) × (sink : List ℕ) × (known1 ≡ Some new) × (taken1 ≡ Some sink) × OutcomeOf page ending (started old program) first new sink)
 
 -- Where the files, the peer and the sink tell: the page of the file refuses nothing of the bytes that the peer gave, and at 5 these were fewer than are ever read.
 abbrev pub RunsUnrefused : List ℕ → Option Contents → Option Known → Option Known → Option (List ℕ) → ℕ → Type 0
 RunsUnrefused name files known0 known1 taken0 status =
     (f : Contents) (old : Known) (first : List ℕ) → files ≡ Some f → known0 ≡ Some old → taken0 ≡ Some first →
     (page : Page) × (new : Known) × (got : List ℕ) × (page_of (f name) ≡ Some page) × (known1 ≡ Some new) × (new.given ≡ old.given ++ got)
-    × RefusesNothing page got × (status ≡ 5 → length got < 2 ^ 40)
+    × RefusesNothing (page_role page) got × (status ≡ 5 → length got < 2 ^ 40)
 
 -- at 2, 3 and 4 the peer was not called, and the end line alone was printed
 abbrev pub StopsEarly : Option Known → Option Known → Option (List ℕ) → Option (List ℕ) → ℕ → Type 0

@@ -1,11 +1,11 @@
 pub mod Words
-pub use Rattle.np_prefix.specs.Alone
-pub mod Session
-pub mod Flow
-pub mod Live
-pub mod Closing
+pub mod Outcomes
+pub mod Losing
 pub mod Host
 pub mod Main
+pub use Rattle.np_model.specs.Alone
+pub use Rattle.np_exchange.specs.Session
+pub use Rattle.np_exchange.specs.Closing
 pub use Rattle.np_ending.specs.Causes
 pub use Rattle.np_ending.specs.PeerCauses
 pub use Rattle.np_ending.specs.Status

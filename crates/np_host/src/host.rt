@@ -4,8 +4,9 @@ ghost use Rattle.std.specs.Prelude.{◌≡◌, ◌<◌, ◌⊎◌, ◌↔◌, �
 ghost use Rattle.np_model.specs.Script.{page_of};
 ghost use Rattle.np_ports.specs.Causes.{Rose};
 ghost use Rattle.np_host.specs.Words.{run_words as run_of_words, texts};
-ghost use Rattle.np_host.specs.Closing.{CutShort};
-ghost use Rattle.np_host.specs.Host.{RunsPage, RunCut, CutWords, StopsEarly, NotStarted, IsNoPage, OnlyNoPage, KeepsFiles, NotesPageOnly, RunsWords, UnrefusedWords, NotStartedWords, IsNoScript, OnlyNoScript, NotesScriptOnly, IsCutShort, IsEndStatus, IsUnrefusedStatus};
+ghost use Rattle.np_exchange.specs.Closing.{IsUnrefusedStatus};
+ghost use Rattle.np_host.specs.Outcomes.{CutShort};
+ghost use Rattle.np_host.specs.Host.{RunsPage, RunCut, CutWords, StopsEarly, NotStarted, IsNoPage, OnlyNoPage, KeepsFiles, NotesPageOnly, RunsWords, UnrefusedWords, NotStartedWords, IsNoScript, OnlyNoScript, NotesScriptOnly, IsCutShort, IsEndStatus};
 ghost use Rattle.np_ending.specs.Causes.{SinkCause};
 ghost use Rattle.np_host.specs.Main.{FollowsWords, ForEachPlugin, HostDone, HostLost, HostBroken, HostRefused, HostCut};
 

@@ -1,10 +1,8 @@
 //! The host program: runs a page over a plug-in program that it starts.
 #![tactic(auto)]
 
-mod flow;
 mod host;
 mod session;
-mod turn;
 mod words;
 
 use crate::host::host_main;

@@ -3,4 +3,3 @@ pub mod CoreRuns
 pub mod LostEnds
 pub mod Measures
 pub mod PageTurns
-pub mod Stands

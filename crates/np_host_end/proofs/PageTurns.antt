@@ -1,5 +1,5 @@
 -- What a turn of the page does, and that a page whose plug-in is lost makes no call.
-use Rattle.std.proofs.Common.{◌≡◌, ℕ, zero, suc, List, [], ◌∷◌, ◌++◌, length, drop, map, Some, refl, ap, sym, ◌∙◌, subst}
+use Rattle.std.proofs.Common.{◌≡◌, ℕ, zero, suc, List, [], ◌∷◌, ◌++◌, map, refl, ap, sym, ◌∙◌, subst}
 use Rattle.std.proofs.lemmas.List.{map-append}
 use Rattle.np_model.specs.declared.script.Page.{Page}
 use Rattle.np_model.specs.declared.script.Command.{Command}
@@ -13,11 +13,13 @@ use Rattle.np_model.specs.declared.page.PeerState.{PeerState}
 use Rattle.np_model.specs.declared.page.PeerState.TheVariants.{Lost}
 use Rattle.np_model.specs.declared.page.Phase.{Phase}
 use Rattle.np_model.specs.declared.page.Phase.TheVariants.{Dead}
-use Rattle.np_model.specs.Side.{SideState, Micro, run_steps, examine}
-use Rattle.np_model.specs.Run.{Pace, Acts, Awaits, Accepts, first, meets, listens, turn_at, turn, endpoint_run}
-use Rattle.np_model.specs.PagePlan.{PageControl, page_plans, go_plan, next_plan, end_plan, create_plan, turn_plan, lost_plan, begun, pace_at, meet_plan, lose, peer_lost, unanswered}
+use Rattle.np_model.specs.Side.{SideState, Micro, run_steps}
+use Rattle.np_model.specs.Run.{Pace, Acts, turn_at, turn, endpoint_run}
+use Rattle.np_model.specs.PagePlan.{PageControl, page_plans, go_plan, next_plan, end_plan, create_plan, turn_plan, lost_plan, begun, pace_at, lose, peer_lost, unanswered}
 use Rattle.np_model.specs.HostRun.{IsAwaiting}
 use Rattle.np_model.specs.Steps.{control_after}
+use Rattle.np_model.specs.Alone.{page_role}
+use Rattle.np_endpoint.proofs.Stands.{ActsBy}
 use Rattle.np_host_end.specs.Core.{IsActing}
 use Rattle.np_model.proofs.StepLemmas.{run-control}
 
@@ -32,21 +34,10 @@ acts-at Ended a = absurd a
 pub act-turn : (page : Page) (got : List Message) (p : SideState PageControl) → IsActing p.control.stage → turn (page_plans page) got p ≡ run_steps (go_plan page p.control p.control.stage) p
 act-turn page got p a = ap (λ (pace : Pace). turn_at (page_plans page) got p pace) (acts-at p.control.stage a)
 
-next-is : (examined : List Message) (m : Message) → first (drop (length examined) (examined ++ m ∷ [])) ≡ Some m
-next-is [] m = refl
-next-is (x ∷ examined) m = next-is examined m
-
-awaits-at : (s : Stage) → IsAwaiting s → pace_at s ≡ Awaits
-awaits-at Begin a = absurd a
-awaits-at Ready a = absurd a
-awaits-at (Awaiting call) a = refl
-awaits-at (Unanswered call) a = absurd a
-awaits-at Ended a = absurd a
-
--- a turn of a page that awaits a message, which comes and is accepted
-pub meet-turn : (page : Page) (p : SideState PageControl) (m : Message) (steps : List (Micro PageControl)) → IsAwaiting p.control.stage → meet_plan p.control m ≡ Accepts steps → turn (page_plans page) (p.examined ++ m ∷ []) p ≡ run_steps steps (examine m p)
-meet-turn page p m steps a e =
-    ap (λ (pace : Pace). turn_at (page_plans page) (p.examined ++ m ∷ []) p pace) (awaits-at p.control.stage a) ∙ ap (listens (page_plans page) p) (next-is p.examined m) ∙ ap (meets p m) e
+-- a page of this control acts by its plan
+pub acts-by : (page : Page) (c : PageControl) → IsActing c.stage → ActsBy (page_role page) c (go_plan page c c.stage)
+acts-by page c a p got same =
+    act-turn page got p (subst (λ (d : PageControl). IsActing d.stage) (sym same) a) ∙ ap (λ (l : List (Micro PageControl)). run_steps l p) (ap (λ (d : PageControl). go_plan page d d.stage) same)
 
 -- ---- the plug-in is lost
 

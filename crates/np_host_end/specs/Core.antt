@@ -11,11 +11,11 @@ use Rattle.np_model.specs.Side.{Micro}
 use Rattle.np_model.specs.Run.{Meeting, Accepts, Refuses}
 use Rattle.np_model.specs.PagePlan.{PageControl, go_plan, meet_plan, reply_plan, unmatched}
 use Rattle.np_model.specs.Steps.{control_after, sent_by, printed_by}
-use Rattle.np_model.specs.HostRun.{RefusedFront}
-use Rattle.np_host_end.specs.declared.host_end.State.{State}
-use Rattle.np_host_end.specs.declared.host_end.State.TheVariants.{Waiting, Finished, Refused}
+use Rattle.np_model.specs.Refused.{RefusedBy}
+use Rattle.np_endpoint.specs.declared.fault.Fault.{Fault}
+use Rattle.np_endpoint.specs.declared.halt.Halt.{Halt}
+use Rattle.np_endpoint.specs.declared.halt.Halt.TheVariants.{Waiting, Finished, Refused}
 use Rattle.np_host_end.specs.declared.host_core.Core.{Core}
-use Rattle.np_host_end.specs.declared.meet.Fault.{Fault}
 
 -- the page's control stands in the fields of the end
 abbrev pub control_of : Core → PageControl
@@ -88,10 +88,10 @@ pub record IsRefused (old new : Core) (r : Refusal) : Type 0 where
   pub outgoing : new.outgoing.items ≡ old.outgoing.items
   pub journal : new.journal.items ≡ old.journal.items
   pub page : new.page ≡ old.page
-  pub refused : RefusedFront (control_of old) old.feed.consumed r (front old.feed.consumed old.feed.left)
+  pub refused : RefusedBy (meet_plan (control_of old)) old.feed.consumed r (front old.feed.consumed old.feed.left)
 
 -- an end that awaits a message went on with it, or halted
-abbrev pub Listened : Core → Core → Option State → Type 0
+abbrev pub Listened : Core → Core → Option Halt → Type 0
 Listened old new None = Listens old new
 Listened old new (Some Waiting) = Waits old new
 Listened old new (Some Finished) = ⊥

@@ -9,3 +9,5 @@ pub use Rattle.np_model.specs.PagePlan
 pub use Rattle.np_model.specs.HostRun
 pub use Rattle.np_model.specs.Steps
 pub use Rattle.np_model.specs.Refused
+pub use Rattle.np_model.specs.Alone
+pub use Rattle.np_endpoint.specs.End

@@ -5,23 +5,13 @@ ghost use Rattle.np_model.specs.Script.{commands_fit};
 ghost use Rattle.np_model.specs.Side.{SideState};
 ghost use Rattle.np_model.specs.PagePlan.{PageControl};
 
+use crate::State;
 use crate::host_core::Core;
+use np_endpoint::Endpoint;
 use np_model::{Page, Refusal};
 use np_values::NoMemory;
 use std::alloc::Global;
 use std::marker::Model;
-
-/// How far a run of an end has come. (This project's own.)
-#[derive(Clone, Copy, Debug, PartialEq, Eq)]
-pub enum State {
-    /// It needs a message that isn't whole yet.
-    Waiting,
-    /// The reply to Shutdown was delivered, or the page ended after the plug-in was lost.
-    Finished,
-    /// It refused what the plug-in sent, and nothing of that took effect. Every later run answers the same
-    /// until `gone`.
-    Refused(Refusal),
-}
 
 /// The browser end of a page, as a machine from the plug-in's bytes to the page's. It reads and writes
 /// nothing itself: its owner gives it bytes by `take`, lets it `run`, and carries off what is in
@@ -35,28 +25,39 @@ pub struct HostEnd {
 }
 
 impl Model for HostEnd {
-    ghost use Rattle.np_host_end.specs.HostEnd.{EndState, seen};
+    ghost use Rattle.std.specs.Prelude.{◌≡◌};
+    ghost use Rattle.np_model.specs.declared.script.Page.{Page};
+    ghost use Rattle.np_model.specs.declared.page.Stage.TheVariants.{Ended};
+    ghost use Rattle.np_model.specs.PagePlan.{PageControl};
+    ghost use Rattle.np_endpoint.specs.declared.halt.Halt.TheVariants.{Finished};
+    ghost use Rattle.np_endpoint.specs.End.{EndState};
+    ghost use Rattle.np_host_end.specs.HostEnd.{seen};
 
-    ghost Value = { EndState };
+    ghost Value = { EndState Page PageControl };
 
     ghost view = { λ e. seen e.core e.state e.failed };
+
+    // Finished is answered only where the page has ended.
+    ghost invariant = { λ e. e.state ≡ Finished → e.core.stage ≡ Ended };
 }
 
 impl HostEnd {
     ghost use Rattle.np_model.specs.declared.script.Page.{Page};
     ghost use Rattle.np_model.specs.declared.page.Stage.TheVariants.{Ended};
     ghost use Rattle.np_model.specs.declared.refusal.Refusal.{Refusal};
-    ghost use Rattle.np_host_end.specs.declared.host_end.State.TheVariants.{Waiting, Refused};
     ghost use Rattle.np_model.specs.PagePlan.{peer_lost};
-    ghost use Rattle.np_host_end.specs.HostEnd.{StandsFor, StandsLost, Keeps, RestsAs, end_start, total_of};
+    ghost use Rattle.np_model.specs.Alone.{page_role};
+    ghost use Rattle.np_endpoint.specs.declared.halt.Halt.TheVariants.{Waiting, Finished, Refused};
+    ghost use Rattle.np_endpoint.specs.End.{StandsFor, Keeps, RestsAs, end_start, total_of};
+    ghost use Rattle.np_host_end.specs.HostEnd.{StandsLost, KeepsLost};
 
     /// The end of a page before anything was done. It owns the page, keeps the allocator, and takes no
     /// memory yet.
     pub fn new(alloc: Global, page: Page) -> Result<HostEnd, NoMemory>
         requires fits { commands_fit 0 page.commands ≡ true }
         ensures made { IsOk result }
-        ensures fresh { IfOk result (λ end. end ≡ end_start page) }
-        ensures stands { IfOk result (λ end. StandsFor page [] [] [] end) }
+        ensures fresh { IfOk result (λ end. end ≡ end_start page_role page) }
+        ensures stands { IfOk result (λ end. StandsFor page_role page [] [] [] end) }
         ensures total { IfOk result (λ end. total_of end ≡ 0) }
         ensures failed { IfOk result (λ end. end.failed ≡ false) }
     {
@@ -94,8 +95,8 @@ impl HostEnd {
     pub fn take(&mut self, bytes: &[u8]) -> Result<(), NoMemory>
         requires room { total_of self.old + length bytes.now ≤ 2 ^ 40 }
         ensures stands { OnOk result ((page : Page) (got sent printed : List ℕ) →
-            StandsFor page got sent printed self.old →
-            StandsFor page (got ++ bytes.now) sent printed self.new) }
+            StandsFor page_role page got sent printed self.old →
+            StandsFor page_role page (got ++ bytes.now) sent printed self.new) }
         ensures lost { OnOk result ((page : Page) (p : SideState PageControl) (sent printed : List ℕ) →
             StandsLost page p sent printed self.old → StandsLost page p sent printed self.new) }
         ensures same { OnOk result (self.new ≡ record self.old { unread = self.old.unread ++ bytes.now }) }
@@ -119,37 +120,39 @@ impl HostEnd {
     pub fn sent(&mut self, n: usize)
         requires within { n ≤ length self.old.outgoing }
         ensures stands { (page : Page) (got sent printed : List ℕ) →
-            StandsFor page got sent printed self.old →
-            StandsFor page got (sent ++ take n self.old.outgoing) printed self.new }
+            StandsFor page_role page got sent printed self.old →
+            StandsFor page_role page got (sent ++ take n self.old.outgoing) printed self.new }
         ensures lost { (page : Page) (p : SideState PageControl) (sent printed : List ℕ) →
             StandsLost page p sent printed self.old →
             StandsLost page p (sent ++ take n self.old.outgoing) printed self.new }
         ensures same { self.new ≡ record self.old { outgoing = drop n self.old.outgoing } }
     {
-        cut_front(&mut self.core.outgoing, n);
+        self.core.outgoing.drain(..n);
     }
 
     /// Cuts the first n bytes off `journal`, which were printed; 0 cuts nothing off.
     pub fn printed(&mut self, n: usize)
         requires within { n ≤ length self.old.journal }
         ensures stands { (page : Page) (got sent printed : List ℕ) →
-            StandsFor page got sent printed self.old →
-            StandsFor page got sent (printed ++ take n self.old.journal) self.new }
+            StandsFor page_role page got sent printed self.old →
+            StandsFor page_role page got sent (printed ++ take n self.old.journal) self.new }
         ensures lost { (page : Page) (p : SideState PageControl) (sent printed : List ℕ) →
             StandsLost page p sent printed self.old →
             StandsLost page p sent (printed ++ take n self.old.journal) self.new }
         ensures same { self.new ≡ record self.old { journal = drop n self.old.journal } }
     {
-        cut_front(&mut self.core.journal, n);
+        self.core.journal.drain(..n);
     }
 
-    /// Goes on until it waits for a message that isn't whole yet, has ended, or refuses a message. After
-    /// want of memory every later run answers the same.
+    /// Goes on until it waits for a message that isn't whole yet, has ended, or refuses a message. It is
+    /// finished where the reply to Shutdown was delivered, or the page ended after the plug-in was lost.
+    /// After a refusal every later run answers the same until `gone`, and after want of memory for good.
     pub fn run(&mut self) -> Result<State, NoMemory>
-        ensures keeps { OnOk result (Keeps self.old self.new) }
-        ensures rests { IfOk result (λ state. RestsAs self.new state) }
+        ensures keeps { OnOk result (Keeps page_role self.old self.new) }
+        ensures rests { IfOk result (λ state. RestsAs page_role self.new state) }
 
-        // A page whose plug-in is lost waits for nothing.
+        // A page whose plug-in is lost goes on alone, and waits for nothing.
+        ensures keeps_lost { OnOk result (KeepsLost self.old self.new) }
         ensures lost { IfOk result (λ state.
             (page : Page) (p : SideState PageControl) (sent printed : List ℕ) →
             StandsLost page p sent printed self.old → self.new.control.stage ≡ Ended) }
@@ -158,17 +161,20 @@ impl HostEnd {
         ensures err { OnErr result (self.new.failed ≡ true) }
         ensures state { OnErr result (self.new.state ≡ self.old.state) }
 
-        // Want of memory and a refusal are answered again from then on, and nothing changes.
+        // Want of memory, a refusal and the end are answered again from then on, and nothing changes.
         ensures again { self.old.failed ≡ true → OnOk result ⊥ }
         ensures stays { self.old.failed ≡ true → self.new ≡ self.old }
         ensures refused { (refusal : Refusal) → self.old.state ≡ Refused refusal →
             self.old.failed ≡ false → (result ≡ Ok (Refused refusal)) × (self.new ≡ self.old) }
+        ensures finished { self.old.state ≡ Finished → self.old.failed ≡ false →
+            (result ≡ Ok Finished) × (self.new ≡ self.old) }
     {
         if self.failed {
             return Err(NoMemory);
         }
-        if let State::Refused(refusal) = self.state {
-            return Ok(State::Refused(refusal));
+        match self.state {
+            State::Waiting => {}
+            State::Finished | State::Refused(_) => return Ok(self.state),
         }
         match self.core.run() {
             Ok(state) => {
@@ -186,7 +192,7 @@ impl HostEnd {
     /// called at any time, and again.
     pub fn gone(&mut self)
         ensures lost { (page : Page) (got sent printed : List ℕ) →
-            (old : StandsFor page got sent printed self.old) →
+            (old : StandsFor page_role page got sent printed self.old) →
             StandsLost page old.side sent printed self.new }
         ensures again { (page : Page) (p : SideState PageControl) (sent printed : List ℕ) →
             StandsLost page p sent printed self.old → StandsLost page p sent printed self.new }
@@ -201,12 +207,40 @@ impl HostEnd {
     }
 }
 
-// Cuts the first n bytes off.
-fn cut_front(bytes: &mut Vec<u8>, n: usize)
-    requires within { n ≤ length bytes.old.items }
-    ensures rest { bytes.new.items ≡ drop n bytes.old.items }
-{
-    let len = bytes.len();
-    bytes.rotate_left(n);
-    bytes.truncate(len - n);
+impl Endpoint for HostEnd {
+    ghost use Rattle.np_model.specs.declared.script.Page.{Page};
+    ghost use Rattle.np_model.specs.PagePlan.{PageControl};
+    ghost use Rattle.np_model.specs.Alone.{page_role};
+
+    ghost Script = { Page };
+
+    ghost Control = { PageControl };
+
+    ghost role_of = { page_role };
+
+    ghost seen = { λ e. e };
+
+    fn outgoing(&self) -> &[u8] {
+        HostEnd::outgoing(self)
+    }
+
+    fn journal(&self) -> &[u8] {
+        HostEnd::journal(self)
+    }
+
+    fn sent(&mut self, n: usize) {
+        HostEnd::sent(self, n);
+    }
+
+    fn printed(&mut self, n: usize) {
+        HostEnd::printed(self, n);
+    }
+
+    fn take(&mut self, bytes: &[u8]) -> Result<(), NoMemory> {
+        HostEnd::take(self, bytes)
+    }
+
+    fn run(&mut self) -> Result<State, NoMemory> {
+        HostEnd::run(self)
+    }
 }

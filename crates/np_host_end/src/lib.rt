@@ -10,7 +10,8 @@ mod lines;
 mod meet;
 mod run;
 
-pub use host_end::{HostEnd, State};
+pub use host_end::HostEnd;
+pub use np_endpoint::Halt as State;
 pub use np_model::{Page, Refusal, Rule};
 
 #[cfg(test)]

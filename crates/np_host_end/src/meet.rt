@@ -7,16 +7,9 @@ ghost use Rattle.np_host_end.specs.Core.{control_of, Meets, Replies, SameBut};
 
 use crate::host_core::Core;
 use crate::lines::{push_code, push_result};
+use np_endpoint::Fault;
 use np_model::{Message, Outstanding, Payload, PeerState, Rule, Stage};
 use np_values::{NoMemory, NpError};
-
-/// Why a message is refused: the rule, and its two numbers.
-#[derive(Clone, Copy, Debug, PartialEq, Eq)]
-pub struct Fault {
-    pub rule: Rule,
-    pub first: u64,
-    pub second: u64,
-}
 
 impl Core {
     /// What the page does with a message while a reply is awaited.

@@ -4,29 +4,33 @@ ghost use Rattle.std.specs.Prelude.{◌≡◌, OnOk, IfOk, false};
 ghost use Rattle.np_model.specs.declared.page.Stage.TheVariants.{Awaiting};
 
 use crate::host_core::Core;
-use crate::host_end::State;
+use np_endpoint::Halt;
 use np_laws::more_messages_law;
-use np_model::{Outstanding, Refusal, Stage};
+use np_model::{Outstanding, Stage};
 use np_values::NoMemory;
 use np_wire::FeedError;
 
 impl Core {
-    ghost use Rattle.np_host_end.specs.HostEnd.{Keeps, RestsAs, seen, total_of};
+    ghost use Rattle.np_model.specs.Alone.{page_role};
+    ghost use Rattle.np_endpoint.specs.End.{Keeps, RestsAs, total_of};
+    ghost use Rattle.np_host_end.specs.HostEnd.{KeepsLost, seen};
     ghost use Rattle.np_host_end.specs.Core.{Listened};
-    ghost use Rattle.np_host_end.specs.declared.host_end.State.TheVariants.{Waiting};
+    ghost use Rattle.np_endpoint.specs.declared.halt.Halt.TheVariants.{Waiting};
 
     /// Goes on until the page waits or has ended, or refuses a message.
-    pub fn run(&mut self) -> Result<State, NoMemory>
+    pub fn run(&mut self) -> Result<Halt, NoMemory>
         ensures keeps { IfOk result (λ state.
-            Keeps (seen self.old Waiting false) (seen self.new state false)) }
-        ensures rests { IfOk result (λ state. RestsAs (seen self.new state false) state) }
+            Keeps page_role (seen self.old Waiting false) (seen self.new state false)) }
+        ensures lost { IfOk result (λ state.
+            KeepsLost (seen self.old Waiting false) (seen self.new state false)) }
+        ensures rests { IfOk result (λ state. RestsAs page_role (seen self.new state false) state) }
         ensures total { OnOk result (total_of (seen self.new Waiting false) ≡
             total_of (seen self.old Waiting false)) }
     {
         more_messages_law();
         loop {
             match self.stage {
-                Stage::Ended => return Ok(State::Finished),
+                Stage::Ended => return Ok(Halt::Finished),
                 Stage::Awaiting(call) => {
                     if let Some(state) = self.listen(call)? {
                         return Ok(state);
@@ -38,7 +42,7 @@ impl Core {
     }
 
     /// Meets the next message; where it can't go on, what it waits for or refuses.
-    fn listen(&mut self, call: Outstanding) -> Result<Option<State>, NoMemory>
+    fn listen(&mut self, call: Outstanding) -> Result<Option<Halt>, NoMemory>
         requires stage { self.old.stage ≡ Awaiting call }
         ensures listened { IfOk result (λ halt. Listened self.old self.new halt) }
         ensures total { OnOk result (total_of (seen self.new Waiting false) ≡
@@ -46,17 +50,12 @@ impl Core {
     {
         let at = self.feed.consumed();
         match self.feed.next() {
-            Ok(None) => Ok(Some(State::Waiting)),
+            Ok(None) => Ok(Some(Halt::Waiting)),
             Ok(Some(message)) => match self.meet(call, &message)? {
                 None => Ok(None),
-                Some(fault) => Ok(Some(State::Refused(Refusal {
-                    at,
-                    rule: fault.rule,
-                    first: fault.first,
-                    second: fault.second,
-                }))),
+                Some(fault) => Ok(Some(Halt::Refused(fault.refusal(at)))),
             },
-            Err(FeedError::Wire(error)) => Ok(Some(State::Refused(error.refusal()))),
+            Err(FeedError::Wire(error)) => Ok(Some(Halt::Refused(error.refusal()))),
             Err(FeedError::NoMemory) => Err(NoMemory),
         }
     }

@@ -1,6 +1,6 @@
 ghost use Rattle.std.specs.Prelude.{◌≡◌, ◌<◌, ◌≤◌, length, OnOk, IfOk, true};
 ghost use Rattle.np_model.specs.Script.{commands_fit};
-ghost use Rattle.np_host_end.specs.HostEnd.{total_of};
+ghost use Rattle.np_endpoint.specs.End.{total_of};
 
 use super::*;
 use np_model::{Command, Commands};

@@ -77,10 +77,10 @@ HonestLaw = (page : Page) (plugin : Plugin) (rounds : ℕ) →
 
 -- What a side alone has printed and sent by some turn, when only the first messages have come, is a prefix of what it printed and sent where it rests with all of them.
 abbrev pub JournalLaw : Type 0
-JournalLaw = (P : Plans PageControl) (got more : List Message) (turns : ℕ) (c : PageControl) (p : SideState PageControl) →
-    RestsAt P (got ++ more) (at_start c) p →
-    ((line : List ℕ) × (p.journal ≡ (endpoint_run P got turns (at_start c)).journal ++ line))
-    × ((messages : List Message) × (p.sent ≡ (endpoint_run P got turns (at_start c)).sent ++ messages))
+JournalLaw = (P : Plans PageControl) (got more : List Message) (turns : ℕ) (from p : SideState PageControl) →
+    RestsAt P (got ++ more) from p →
+    ((line : List ℕ) × (p.journal ≡ (endpoint_run P got turns from).journal ++ line))
+    × ((messages : List Message) × (p.sent ≡ (endpoint_run P got turns from).sent ++ messages))
 
 -- A page that goes on alone after the plug-in is lost sends nothing more and rests at its end, and where a reply was awaited it comes there.
 abbrev pub LostLaw : Type 0
@@ -141,10 +141,10 @@ PluginAloneLaw = (P : Plans PageControl) (Q : Plans PluginControl) (c : PageCont
 
 -- What the plug-in alone has printed and sent by some turn, when only the first messages have come, is a prefix of what it printed and sent where it rests with all of them.
 abbrev pub PluginJournalLaw : Type 0
-PluginJournalLaw = (Q : Plans PluginControl) (got more : List Message) (turns : ℕ) (d : PluginControl) (q : SideState PluginControl) →
-    RestsAt Q (got ++ more) (at_start d) q →
-    ((line : List ℕ) × (q.journal ≡ (endpoint_run Q got turns (at_start d)).journal ++ line))
-    × ((messages : List Message) × (q.sent ≡ (endpoint_run Q got turns (at_start d)).sent ++ messages))
+PluginJournalLaw = (Q : Plans PluginControl) (got more : List Message) (turns : ℕ) (from q : SideState PluginControl) →
+    RestsAt Q (got ++ more) from q →
+    ((line : List ℕ) × (q.journal ≡ (endpoint_run Q got turns from).journal ++ line))
+    × ((messages : List Message) × (q.sent ≡ (endpoint_run Q got turns from).sent ++ messages))
 
 -- The plug-in alone rests at one place.
 abbrev pub PluginOneRestLaw : Type 0

@@ -1,3 +1,4 @@
 pub mod Encodings
 pub mod StepLemmas
 pub mod NoItems
+pub mod Paces

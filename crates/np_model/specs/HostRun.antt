@@ -3,14 +3,11 @@ use Rattle.std.specs.Prelude.{◌≡◌, ℕ, List, [], ◌++◌, None}
 use Rattle.np_model.specs.declared.script.Page.{Page}
 use Rattle.np_model.specs.declared.page.Stage.{Stage}
 use Rattle.np_model.specs.declared.page.Stage.TheVariants.{Begin, Ready, Awaiting, Unanswered, Ended}
-use Rattle.np_model.specs.declared.refusal.Refusal.{Refusal}
 use Rattle.np_model.specs.Encoding.{encodings}
-use Rattle.np_model.specs.Decoding.{Front, front}
 use Rattle.np_model.specs.Side.{SideState, at_start}
 use Rattle.np_model.specs.Run.{Machine, machine_run, RestsAt, PageRests}
-use Rattle.np_model.specs.PagePlan.{PageControl, page_plans, page_start, meet_plan, lose}
+use Rattle.np_model.specs.PagePlan.{PageControl, page_plans, page_start, lose}
 use Rattle.np_model.specs.declared.script.Plugin.{Plugin}
-use Rattle.np_model.specs.Refused.{RefusedBy}
 use Rattle.np_model.specs.PluginPlan.{PluginControl, plugin_plans, plugin_start}
 
 -- this page and a plug-in before anything was done
@@ -32,18 +29,6 @@ IsAwaiting Ready = ⊥
 IsAwaiting (Awaiting call) = Unit {0}
 IsAwaiting (Unanswered call) = ⊥
 IsAwaiting Ended = ⊥
-
--- the page refuses what stands at the front of the bytes
-abbrev pub RefusedFront : PageControl → ℕ → Refusal → Front → Type 0
-RefusedFront c at r seen = RefusedBy (meet_plan c) at r seen
-
--- the page awaits a message and refuses what stands at the front of `left`
-pub record IsRefusal (c : PageControl) (at : ℕ) (left : List ℕ) (r : Refusal) : Type 0 where
-  pub awaits : IsAwaiting c.stage
-  pub read : List ℕ  -- the bytes that had come by then
-  pub later : List ℕ
-  pub left_is : left ≡ read ++ later
-  pub refused : RefusedFront c at r (front at read)
 
 -- the bytes are a prefix of the plug-in's wire text in the run of page and plug-in
 pub record IsPluginText (page : Page) (plugin : Plugin) (bytes : List ℕ) : Type 0 where

@@ -12,5 +12,6 @@ pub mod PagePlan
 pub mod PluginPlan
 pub mod HostRun
 pub mod PluginRun
+pub mod Alone
 pub use Rattle.np_values.specs.Text
 pub use Rattle.np_values.specs.NpError

@@ -5,14 +5,11 @@ use Rattle.np_model.specs.declared.script.Plugin.{Plugin}
 use Rattle.np_model.specs.Script.{page_of}
 use Rattle.np_model.specs.declared.plugin.PluginStage.{PluginStage}
 use Rattle.np_model.specs.declared.plugin.PluginStage.TheVariants.{Begin, Serving, Ended}
-use Rattle.np_model.specs.declared.refusal.Refusal.{Refusal}
 use Rattle.np_model.specs.Encoding.{encodings}
-use Rattle.np_model.specs.Decoding.{front}
-use Rattle.np_model.specs.Refused.{RefusedBy}
 use Rattle.np_model.specs.Side.{SideState}
 use Rattle.np_model.specs.Run.{machine_run, PluginRests}
 use Rattle.np_model.specs.PagePlan.{page_plans}
-use Rattle.np_model.specs.PluginPlan.{PluginControl, plugin_plans, plugin_meet}
+use Rattle.np_model.specs.PluginPlan.{PluginControl, plugin_plans}
 use Rattle.np_model.specs.HostRun.{start_of}
 
 -- the plug-in in the run of page and plug-in that the first j messages of the page reach: before the page's next message takes effect
@@ -24,14 +21,6 @@ abbrev pub IsListening : PluginStage → Type 0
 IsListening Begin = Unit {0}
 IsListening Serving = Unit {0}
 IsListening Ended = ⊥
-
--- the plug-in awaits a message and refuses what stands at the front of `left`
-pub record IsPluginRefusal (plugin : Plugin) (c : PluginControl) (at : ℕ) (left : List ℕ) (r : Refusal) : Type 0 where
-  pub listens : IsListening c.stage
-  pub read : List ℕ  -- the bytes that had come by then
-  pub later : List ℕ
-  pub left_is : left ≡ read ++ later
-  pub refused : RefusedBy (plugin_meet plugin c) at r (front at read)
 
 -- the page is what some script says
 pub record IsScripted (page : Page) : Type 0 where

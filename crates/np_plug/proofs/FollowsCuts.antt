@@ -8,12 +8,12 @@ use Rattle.np_model.specs.PluginRun.{IsPageText}
 use Rattle.np_ports.specs.Peer.{Known}
 use Rattle.np_ports.specs.Files.{Contents}
 use Rattle.np_script.specs.Canonical.{PagesAreWellFormed}
-use Rattle.np_prefix.specs.PluginAlone.{PluginComesTo}
+use Rattle.np_model.specs.Alone.{plugin_role, ComesTo}
 use Rattle.np_prefix.specs.PluginPrefix.{PluginWaitsLaw, PluginEndsLaw, PluginBeginsLaw, PluginComesToRestLaw, PluginNeverRefusesLaw, PageFewBytesLaw}
 use Rattle.np_ending.specs.declared.ending.Ending.{Ending}
 use Rattle.np_ending.specs.declared.ending.Ending.TheVariants as endings
-use Rattle.np_plug.specs.Session.{Exchanged, Interrupted}
-use Rattle.np_plug.specs.Closing.{OutcomeOf, CutShort}
+use Rattle.np_exchange.specs.Session.{Exchanged, Interrupted}
+use Rattle.np_plug.specs.Outcomes.{OutcomeOf, CutShort}
 use Rattle.np_plug.specs.Plug.{script_word, OfScript, RunCut, CutWords}
 use Rattle.np_plug.specs.Main.{PluginDone, PluginLeft, PluginBroken, PluginInterrupted, PluginCut, ForEachPage}
 use Rattle.np_ending.proofs.Parts.{begins-then, messages-begin}
@@ -29,10 +29,10 @@ pub record RunLaws : Type 0 where
   pub never : PluginNeverRefusesLaw
   pub few : PageFewBytesLaw
 
-interrupted-follows : RunLaws → (page : Page) (plugin : Plugin) (old : Known) (first : List ℕ) (new : Known) (sink given : List ℕ) → Interrupted plugin old first new sink → IsWellFormed page → new.given ≡ old.given ++ given → IsPageText page plugin given → PluginInterrupted page plugin old first new sink given
+interrupted-follows : RunLaws → (page : Page) (plugin : Plugin) (old : Known) (first : List ℕ) (new : Known) (sink given : List ℕ) → Interrupted (plugin_role plugin) old first new sink → IsWellFormed page → new.given ≡ old.given ++ given → IsPageText page plugin given → PluginInterrupted page plugin old first new sink given
 interrupted-follows laws page plugin old first new sink given c w e t =
     let same = same-given plugin old new c.got c.sent given c.exchanged e in
-    let at = subst (λ (l : List ℕ). PluginComesTo plugin l c.side) same c.comes_to in
+    let at = subst (λ (l : List ℕ). ComesTo (plugin_role plugin) l c.side) same c.comes_to in
     let r = laws.rests page plugin given w t in
     let b = laws.begins page plugin given r.0 c.side r.1 w t at r.2 r.3 in
     record {
@@ -45,10 +45,10 @@ interrupted-follows laws page plugin old first new sink given c w e t =
       lines_part = begins-then r.1.journal c.side.journal c.lines (record { rest = b.0.0; parts = b.0.1 }) c.lines_part;
       printed = c.printed;
       taken_part = begins-then (encodings r.1.sent) (encodings c.side.sent) c.sent (messages-begin r.1.sent c.side.sent b.1.0 b.1.1) c.sent_part;
-      exchange = exchange-follows laws.waits page plugin old new given c.sent w t (subst (λ (l : List ℕ). Exchanged plugin old new l c.sent) same c.exchanged);
+      exchange = exchange-follows laws.waits page plugin old new given c.sent w t (subst (λ (l : List ℕ). Exchanged (plugin_role plugin) old new l c.sent) same c.exchanged);
     }
 
-outcome-follows : RunLaws → (page : Page) (plugin : Plugin) (old : Known) (first : List ℕ) (new : Known) (sink given : List ℕ) (ending : Ending) → length page.commands ≤ 1048576 → OutcomeOf plugin old first new sink ending → IsWellFormed page → new.given ≡ old.given ++ given → IsPageText page plugin given
+outcome-follows : RunLaws → (page : Page) (plugin : Plugin) (old : Known) (first : List ℕ) (new : Known) (sink given : List ℕ) (ending : Ending) → length page.commands ≤ 1048576 → OutcomeOf plugin ending old first new sink → IsWellFormed page → new.given ≡ old.given ++ given → IsPageText page plugin given
     → PluginDone page plugin old first new sink given ⊎ (PluginLeft page plugin old first new sink given ⊎ PluginBroken page plugin old first new sink given)
 outcome-follows laws page plugin old first new sink given endings.Done short o w e t = inl (done-follows laws.waits laws.ends page plugin old first new sink given o w e t)
 outcome-follows laws page plugin old first new sink given endings.Unsent short o w e t = inr (inr (broken-follows laws.waits laws.ends page plugin old first new sink given o w e t))
@@ -60,7 +60,7 @@ cut-follows : RunLaws → (pipe_failed peer_ended : Type 0) (plugin : Plugin) (o
 cut-follows laws pipe_failed peer_ended plugin old first new sink (inl c) page given scripted e t = inl (interrupted-follows laws page plugin old first new sink given c (laws.formed scripted.script page scripted.says).0 e t)
 cut-follows laws pipe_failed peer_ended plugin old first new sink (inr (ending, reason, c)) page given scripted e t =
     let w = laws.formed scripted.script page scripted.says in
-    inr (c.whole, c.part, c.first_stays, outcome-follows laws page plugin old first new c.whole given ending w.1 c.outcome w.0 e t)
+    inr (c.whole, c.part, c.first_stays, outcome-follows laws page plugin old first new c.whole given ending w.1 c.reached w.0 e t)
 
 -- ---- of a run of the plug-in program
 

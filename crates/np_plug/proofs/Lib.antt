@@ -1,9 +1,7 @@
-pub mod Exchanges
 pub mod Closings
 pub mod Scripts
 pub mod ScriptWord
 pub mod Follows
 pub mod UnrefusedRuns
-pub mod Cuts
 pub mod ScriptCuts
 pub mod FollowsCuts

@@ -6,7 +6,7 @@ use Rattle.np_model.specs.Journal.{end_line}
 use Rattle.np_ports.specs.Peer.{Known}
 use Rattle.np_ports.specs.Files.{Contents}
 use Rattle.np_ending.specs.Causes.{AddsPart}
-use Rattle.np_plug.specs.Session.{Told}
+use Rattle.np_exchange.specs.Session.{Told}
 use Rattle.np_plug.specs.Plug.{IsDueEarly, RunCut}
 use Rattle.np_plug.proofs.Scripts.{WasRead, plugin-is, no-plugin}
 
@@ -31,7 +31,7 @@ pub due-script : (name : List ℕ) (file_failed : Type 0) (files0 files1 : Optio
 due-script name file_failed files0 files1 bytes seen read same none f told = inl (refl, no-plugin files0 files1 name bytes seen read same none f told)
 
 pub plugin-cut : (outcome : Plugin → Known → List ℕ → Known → List ℕ → Type 0) (name : List ℕ) (file_failed : Type 0) (files0 files1 : Option Contents) (bytes seen : List ℕ) (plugin : Plugin) (known0 known1 : Option Known) (taken0 taken1 : Option (List ℕ))
-    → WasRead files0 files1 name bytes → seen ≡ bytes → plugin_of seen ≡ Some plugin → Told outcome plugin known0 known1 taken0 taken1 → RunCut outcome name file_failed files0 known0 known1 taken0 taken1
+    → WasRead files0 files1 name bytes → seen ≡ bytes → plugin_of seen ≡ Some plugin → Told (outcome plugin) known0 known1 taken0 taken1 → RunCut outcome name file_failed files0 known0 known1 taken0 taken1
 plugin-cut outcome name file_failed files0 files1 bytes seen plugin known0 known1 taken0 taken1 read same some session f old first told k o =
     let there : plugin_of (f name) ≡ Some plugin = sym (plugin-is files0 files1 name bytes seen f read same told) ∙ some in
     let y = session old first k o in

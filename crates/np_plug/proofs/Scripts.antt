@@ -9,7 +9,8 @@ use Rattle.np_model.specs.PluginScript.{plugin_of, plugin_in}
 use Rattle.np_ports.specs.Peer.{Known}
 use Rattle.np_ports.specs.Files.{Contents}
 use Rattle.np_plug.specs.Plug.{RunsPlugin, IsNoPlugin, OnlyNoPlugin}
-use Rattle.np_plug.specs.Closing.{SessionOutcome}
+use Rattle.np_exchange.specs.Closing.{EndsWith}
+use Rattle.np_plug.specs.Outcomes.{OutcomeOf}
 
 too-long : (bytes : List ℕ) → 1048576 < length bytes → plugin_of bytes ≡ None
 unfolding plugin_of
@@ -45,7 +46,7 @@ pub only-plugin : (files0 files1 : Option Contents) (name bytes seen : List ℕ)
 only-plugin files0 files1 name bytes seen plugin status read same some f told none = absurd (some-none plugin (plugin_of seen) some (plugin-is files0 files1 name bytes seen f read same told ∙ none))
 
 pub runs : (name : List ℕ) (files0 files1 : Option Contents) (bytes seen : List ℕ) (plugin : Plugin) (known0 known1 : Option Known) (taken0 taken1 : Option (List ℕ)) (status : ℕ)
-    → WasRead files0 files1 name bytes → seen ≡ bytes → plugin_of seen ≡ Some plugin → SessionOutcome plugin known0 known1 taken0 taken1 status → RunsPlugin name files0 known0 known1 taken0 taken1 status
+    → WasRead files0 files1 name bytes → seen ≡ bytes → plugin_of seen ≡ Some plugin → EndsWith (OutcomeOf plugin) known0 known1 taken0 taken1 status → RunsPlugin name files0 known0 known1 taken0 taken1 status
 runs name files0 files1 bytes seen plugin known0 known1 taken0 taken1 status read same some outcome is f old first told k o =
     let there : plugin_of (f name) ≡ Some plugin = sym (plugin-is files0 files1 name bytes seen f read same told) ∙ some in
     (plugin, outcome.0, there, outcome.1, outcome.2 old first k o)

@@ -8,11 +8,11 @@ use Rattle.np_ports.specs.Peer.{Known}
 use Rattle.np_ports.specs.Files.{Contents}
 use Rattle.np_ports.specs.declared.file_call.FileCall.{FileCall}
 use Rattle.np_ports.specs.declared.file_call.FileCall.TheVariants.{Read}
-use Rattle.np_prefix.specs.PluginAlone.{PluginRefusesNothing}
+use Rattle.np_model.specs.Alone.{plugin_role, RefusesNothing}
 use Rattle.np_ending.specs.declared.ending.Ending.{Ending}
 use Rattle.np_ending.specs.Causes.{Adds, BeginsWith}
 use Rattle.np_ending.specs.Status.{status_of, IsRunStatus}
-use Rattle.np_plug.specs.Closing.{OutcomeOf}
+use Rattle.np_plug.specs.Outcomes.{OutcomeOf}
 
 abbrev pub texts : List (String Global) → List (List ℕ)
 texts words = map (λ w. string_bytes w) words
@@ -29,18 +29,14 @@ abbrev pub RunsPlugin : List ℕ → Option Contents → Option Known → Option
 RunsPlugin name files known0 known1 taken0 taken1 status =
     IsRunStatus status → (f : Contents) (old : Known) (first : List ℕ) → files ≡ Some f → known0 ≡ Some old → taken0 ≡ Some first →
     (plugin : Plugin) × (ending : Ending) × (plugin_of (f name) ≡ Some plugin) × (status ≡ status_of ending)
-    × ((new : Known) × (sink : List ℕ) × (known1 ≡ Some new) × (taken1 ≡ Some sink) × OutcomeOf plugin old first new sink ending)
-
--- the statuses at which nothing was refused
-abbrev pub IsUnrefusedStatus : ℕ → Type 0
-IsUnrefusedStatus status = (status ≡ 0) ⊎ ((status ≡ 5) ⊎ (status ≡ 6))
+    × ((new : Known) × (sink : List ℕ) × (known1 ≡ Some new) × (taken1 ≡ Some sink) × OutcomeOf plugin ending old first new sink)
 
 -- Where the files, the peer and the sink tell: the plug-in of the file refuses nothing of the bytes that the peer gave, and at 5 these were fewer than are ever read.
 abbrev pub RunsUnrefused : List ℕ → Option Contents → Option Known → Option Known → Option (List ℕ) → ℕ → Type 0
 RunsUnrefused name files known0 known1 taken0 status =
     (f : Contents) (old : Known) (first : List ℕ) → files ≡ Some f → known0 ≡ Some old → taken0 ≡ Some first →
     (plugin : Plugin) × (new : Known) × (got : List ℕ) × (plugin_of (f name) ≡ Some plugin) × (known1 ≡ Some new) × (new.given ≡ old.given ++ got)
-    × PluginRefusesNothing plugin got × (status ≡ 5 → length got < 2 ^ 40)
+    × RefusesNothing (plugin_role plugin) got × (status ≡ 5 → length got < 2 ^ 40)
 
 -- at 3 and 4 the peer was not called, and the end line alone was printed
 abbrev pub StopsEarly : Option Known → Option Known → Option (List ℕ) → Option (List ℕ) → ℕ → Type 0

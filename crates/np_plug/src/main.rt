@@ -1,10 +1,8 @@
 //! The plug-in program: serves the page at the other end of its standard input and output.
 #![tactic(auto)]
 
-mod flow;
 mod plug;
 mod session;
-mod turn;
 
 use crate::plug::plug_main;
 use np_ports::{FileSink, HostFiles, StdPeer};

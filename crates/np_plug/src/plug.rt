@@ -3,8 +3,9 @@
 ghost use Rattle.std.specs.Prelude.{◌≡◌, ◌<◌, ◌⊎◌, ◌↔◌, ◌≢◌, length, map, string_bytes, IfOk, OnOk, OnErr, Some, None, true};
 ghost use Rattle.np_ports.specs.Causes.{Rose};
 ghost use Rattle.np_ending.specs.Causes.{SinkCause};
-ghost use Rattle.np_plug.specs.Plug.{texts, script_word, RunsPlugin, RunCut, CutWords, RunsWords, UnrefusedWords, StopsEarly, IsNoPlugin, IsNoScript, OnlyNoPlugin, OnlyNoScript, KeepsFiles, NotesScriptOnly, NotesWordsOnly, IsIdle, IsCutShort, IsEndStatus, IsUnrefusedStatus};
-ghost use Rattle.np_plug.specs.Closing.{CutShort};
+ghost use Rattle.np_plug.specs.Plug.{texts, script_word, RunsPlugin, RunCut, CutWords, RunsWords, UnrefusedWords, StopsEarly, IsNoPlugin, IsNoScript, OnlyNoPlugin, OnlyNoScript, KeepsFiles, NotesScriptOnly, NotesWordsOnly, IsIdle, IsCutShort, IsEndStatus};
+ghost use Rattle.np_exchange.specs.Closing.{IsUnrefusedStatus};
+ghost use Rattle.np_plug.specs.Outcomes.{CutShort};
 ghost use Rattle.np_plug.specs.Main.{FollowsWords, ForEachPage, PluginDone, PluginLeft, PluginBroken, PluginRefused, PluginCut};
 
 use crate::session::session;
@@ -12,7 +13,7 @@ use np_ending::{Stop, finish};
 use np_ports::{Files, Peer, PortError, Sink};
 use np_prefix::{
     page_few_bytes_law, plugin_begins_law, plugin_comes_to_rest_law, plugin_ends_law,
-    plugin_never_refuses_law, plugin_rests_unrefused_law, plugin_waits_law,
+    plugin_never_refuses_law, plugin_waits_law, rests_unrefused_law,
 };
 use np_script::{pages_are_well_formed, parse_plugin};
 use np_transfer::read_script;
@@ -109,7 +110,7 @@ pub fn plug_main<P: Peer, F: Files, O: Sink>(
     plugin_comes_to_rest_law();
     plugin_ends_law();
     plugin_never_refuses_law();
-    plugin_rests_unrefused_law();
+    rests_unrefused_law();
     page_few_bytes_law();
     pages_are_well_formed();
     let [script, _] = words else {

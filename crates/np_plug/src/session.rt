@@ -1,40 +1,19 @@
 //! A plug-in over a peer and a sink, from its start to the status of the run.
 
-ghost use Rattle.std.specs.Prelude.{◌≡◌, ◌≤◌, OnOk, OnErr, IfOk, true};
-ghost use Rattle.np_plug_end.specs.PlugEnd.{total_of};
+ghost use Rattle.std.specs.Prelude.{◌≡◌, OnOk, OnErr, IfOk, true};
 ghost use Rattle.np_ports.specs.Causes.{Rose};
 ghost use Rattle.np_ending.specs.Causes.{Adds, AddsPart, SinkCause};
-ghost use Rattle.np_ending.specs.PeerCauses.{TalkCause, TalkEnded, SessionCause, SessionEnded};
+ghost use Rattle.np_ending.specs.PeerCauses.{SessionCause, SessionEnded};
 ghost use Rattle.np_ending.specs.Status.{ending_line, status_of, IsRunStatus};
-ghost use Rattle.np_plug.specs.Session.{Told};
-ghost use Rattle.np_plug.specs.Live.{TurnCut};
-ghost use Rattle.np_plug.specs.Closing.{Talked, CutShort, SessionOutcome};
+ghost use Rattle.np_exchange.specs.Session.{Told};
+ghost use Rattle.np_exchange.specs.Closing.{EndsWith};
+ghost use Rattle.np_plug.specs.Outcomes.{OutcomeOf, CutShort};
 
-use crate::turn::turn;
 use np_ending::{Ending, Stop, finish, finish_refused};
+use np_exchange::talk;
 use np_plug_end::{PlugEnd, Plugin};
 use np_ports::{Peer, Sink};
 use std::alloc::Global;
-
-/// Exchanges messages until the plug-in has ended, or the peer is lost or refused.
-fn talk<P: Peer, O: Sink>(end: &mut PlugEnd, peer: &mut P, notes: &mut O) -> Result<Ending, Stop>
-    requires total { total_of end.old ≡ 0 }
-    ensures cut { OnErr result (TurnCut (P.known peer.old) (P.known peer.new) (O.taken notes.old) (O.taken notes.new) end.old) }
-    ensures talked { IfOk result (λ ending. Talked (P.known peer.old) (P.known peer.new) (O.taken notes.old) (O.taken notes.new) end.old end.new ending) }
-    ensures peer { TalkCause (P.pipe_faults peer.old) (P.pipe_faults peer.new) result }
-    ensures ended { TalkEnded (P.has_ended peer.new) result }
-    ensures start_faults { P.start_faults peer.new ≡ P.start_faults peer.old }
-    ensures sink { SinkCause (O.faults notes.old) (O.faults notes.new) result }
-{
-    let mut buf = [0u8; 4096];
-    let mut total = 0u64;
-    loop {
-        let next = turn(end, peer, notes, &mut buf, &mut total)?;
-        if let Some(ending) = next {
-            return Ok(ending);
-        }
-    }
-}
 
 /// Prints the end line of an exchange, and answers its status.
 fn close<O: Sink>(alloc: Global, ending: Ending, notes: &mut O) -> Result<u8, Stop>
@@ -58,8 +37,8 @@ pub fn session<P: Peer, O: Sink>(
     peer: &mut P,
     notes: &mut O,
 ) -> Result<u8, Stop>
-    ensures cut { OnErr result (Told (CutShort (Rose (P.pipe_faults peer.old) (P.pipe_faults peer.new)) (P.has_ended peer.new ≡ true)) plugin (P.known peer.old) (P.known peer.new) (O.taken notes.old) (O.taken notes.new)) }
-    ensures outcome { IfOk result (λ status. SessionOutcome plugin (P.known peer.old) (P.known peer.new) (O.taken notes.old) (O.taken notes.new) status) }
+    ensures cut { OnErr result (Told (CutShort (Rose (P.pipe_faults peer.old) (P.pipe_faults peer.new)) (P.has_ended peer.new ≡ true) plugin) (P.known peer.old) (P.known peer.new) (O.taken notes.old) (O.taken notes.new)) }
+    ensures outcome { IfOk result (λ status. EndsWith (OutcomeOf plugin) (P.known peer.old) (P.known peer.new) (O.taken notes.old) (O.taken notes.new) status) }
     ensures status { IfOk result (λ status. IsRunStatus status) }
     ensures peer { SessionCause (P.pipe_faults peer.old) (P.pipe_faults peer.new) result }
     ensures ended { SessionEnded (P.has_ended peer.new) result }

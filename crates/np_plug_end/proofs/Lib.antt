@@ -1,3 +1,1 @@
 pub mod CoreRuns
-pub mod PluginTurns
-pub mod Stands

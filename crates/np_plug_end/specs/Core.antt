@@ -10,10 +10,10 @@ use Rattle.np_model.specs.Run.{Accepts, Refuses}
 use Rattle.np_model.specs.PluginPlan.{PluginControl, serve_plan, plugin_meet}
 use Rattle.np_model.specs.Steps.{control_after, sent_by, printed_by}
 use Rattle.np_model.specs.Refused.{RefusedBy}
-use Rattle.np_plug_end.specs.declared.plug_end.PlugState.{PlugState}
-use Rattle.np_plug_end.specs.declared.plug_end.PlugState.TheVariants.{Waiting, Finished, Refused}
+use Rattle.np_endpoint.specs.declared.fault.Fault.{Fault}
+use Rattle.np_endpoint.specs.declared.halt.Halt.{Halt}
+use Rattle.np_endpoint.specs.declared.halt.Halt.TheVariants.{Waiting, Finished, Refused}
 use Rattle.np_plug_end.specs.declared.plug_core.Core.{Core}
-use Rattle.np_plug_end.specs.declared.meet.Fault.{Fault}
 
 -- the plug-in's control stands in the fields of the end
 abbrev pub control_of : Core → PluginControl
@@ -62,7 +62,7 @@ pub record IsRefused (old new : Core) (r : Refusal) : Type 0 where
   pub refused : RefusedBy (plugin_meet old.plugin (control_of old)) old.feed.consumed r (front old.feed.consumed old.feed.left)
 
 -- an end that awaits a message went on with it, or halted
-abbrev pub Listened : Core → Core → Option PlugState → Type 0
+abbrev pub Listened : Core → Core → Option Halt → Type 0
 Listened old new None = Listens old new
 Listened old new (Some Waiting) = Waits old new
 Listened old new (Some Finished) = ⊥

@@ -6,5 +6,7 @@ pub use Rattle.np_model.specs.Side
 pub use Rattle.np_model.specs.Run
 pub use Rattle.np_model.specs.PluginPlan
 pub use Rattle.np_model.specs.PluginRun
+pub use Rattle.np_model.specs.Alone
 pub use Rattle.np_model.specs.Steps
 pub use Rattle.np_model.specs.Refused
+pub use Rattle.np_endpoint.specs.End

@@ -9,8 +9,9 @@ mod rules;
 mod run;
 mod serve;
 
+pub use np_endpoint::Halt as PlugState;
 pub use np_model::{Plugin, Refusal, Rule};
-pub use plug_end::{PlugEnd, PlugState};
+pub use plug_end::PlugEnd;
 
 #[cfg(test)]
 mod tests;

@@ -6,15 +6,8 @@ ghost use Rattle.np_model.specs.PagePlan.{is_live};
 
 use crate::plug_core::Core;
 use crate::rules::place;
+use np_endpoint::Fault;
 use np_model::{Message, Payload, Phase, PluginStage, Rule};
-
-/// Why a message is refused: the rule, and its two numbers.
-#[derive(Clone, Copy, Debug, PartialEq, Eq)]
-pub struct Fault {
-    pub rule: Rule,
-    pub first: u64,
-    pub second: u64,
-}
 
 impl Core {
     ghost use Rattle.np_plug_end.specs.Core.{control_of, Meets};

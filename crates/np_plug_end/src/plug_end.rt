@@ -2,24 +2,13 @@
 
 ghost use Rattle.std.specs.Prelude.{◌≡◌, ◌+◌, ◌≤◌, ◌^◌, ◌++◌, [], List, ℕ, length, take, drop, IsOk, OnOk, OnErr, IfOk, true, false};
 
+use crate::PlugState;
 use crate::plug_core::Core;
+use np_endpoint::Endpoint;
 use np_model::{Plugin, Refusal};
 use np_values::NoMemory;
 use std::alloc::Global;
 use std::marker::Model;
-
-/// How far a run of an end has come. (This project's own.)
-#[derive(Clone, Copy, Debug, PartialEq, Eq)]
-pub enum PlugState {
-    /// It needs a message that isn't whole yet.
-    Waiting,
-    /// It was shut down, and the reply to Shutdown is in `outgoing`, or was cut off it. What came behind
-    /// Shutdown is left unread and never examined.
-    Finished,
-    /// It refused what the host sent, and nothing of that took effect. Every later run answers the
-    /// same.
-    Refused(Refusal),
-}
 
 /// The plug-in end, as a machine from the host's bytes to the plug-in's. It reads and writes nothing
 /// itself: its owner gives it bytes by `take`, lets it `run`, and carries off what is in `outgoing`
@@ -35,10 +24,13 @@ pub struct PlugEnd {
 impl Model for PlugEnd {
     ghost use Rattle.std.specs.Prelude.{◌≡◌};
     ghost use Rattle.np_model.specs.declared.plugin.PluginStage.TheVariants.{Ended};
-    ghost use Rattle.np_plug_end.specs.declared.plug_end.PlugState.TheVariants.{Finished};
-    ghost use Rattle.np_plug_end.specs.PlugEnd.{PlugEndState, seen};
+    ghost use Rattle.np_model.specs.declared.script.Plugin.{Plugin};
+    ghost use Rattle.np_model.specs.PluginPlan.{PluginControl};
+    ghost use Rattle.np_endpoint.specs.declared.halt.Halt.TheVariants.{Finished};
+    ghost use Rattle.np_endpoint.specs.End.{EndState};
+    ghost use Rattle.np_plug_end.specs.PlugEnd.{seen};
 
-    ghost Value = { PlugEndState };
+    ghost Value = { EndState Plugin PluginControl };
 
     ghost view = { λ e. seen e.core e.state e.failed };
 
@@ -48,15 +40,16 @@ impl Model for PlugEnd {
 
 impl PlugEnd {
     ghost use Rattle.np_model.specs.declared.script.Plugin.{Plugin};
+    ghost use Rattle.np_model.specs.Alone.{plugin_role};
     ghost use Rattle.np_model.specs.declared.refusal.Refusal.{Refusal};
-    ghost use Rattle.np_plug_end.specs.declared.plug_end.PlugState.TheVariants.{Waiting, Finished, Refused};
-    ghost use Rattle.np_plug_end.specs.PlugEnd.{StandsFor, Keeps, RestsAs, end_start, total_of};
+    ghost use Rattle.np_endpoint.specs.declared.halt.Halt.TheVariants.{Waiting, Finished, Refused};
+    ghost use Rattle.np_endpoint.specs.End.{StandsFor, Keeps, RestsAs, end_start, total_of};
 
     /// The end of a plug-in before anything was done. It takes no memory yet.
     pub fn new(alloc: Global, plugin: Plugin) -> Result<PlugEnd, NoMemory>
         ensures made { IsOk result }
-        ensures fresh { IfOk result (λ end. end ≡ end_start plugin) }
-        ensures stands { IfOk result (λ end. StandsFor plugin [] [] [] end) }
+        ensures fresh { IfOk result (λ end. end ≡ end_start plugin_role plugin) }
+        ensures stands { IfOk result (λ end. StandsFor plugin_role plugin [] [] [] end) }
         ensures total { IfOk result (λ end. total_of end ≡ 0) }
         ensures failed { IfOk result (λ end. end.failed ≡ false) }
     {
@@ -94,8 +87,8 @@ impl PlugEnd {
     pub fn take(&mut self, bytes: &[u8]) -> Result<(), NoMemory>
         requires room { total_of self.old + length bytes.now ≤ 2 ^ 40 }
         ensures stands { OnOk result ((plugin : Plugin) (got sent printed : List ℕ) →
-            StandsFor plugin got sent printed self.old →
-            StandsFor plugin (got ++ bytes.now) sent printed self.new) }
+            StandsFor plugin_role plugin got sent printed self.old →
+            StandsFor plugin_role plugin (got ++ bytes.now) sent printed self.new) }
         ensures same { OnOk result (self.new ≡ record self.old { unread = self.old.unread ++ bytes.now }) }
         ensures err { OnErr result (self.new.failed ≡ true) }
         ensures kept { OnErr result (self.new ≡ record self.old { failed = true }) }
@@ -117,8 +110,8 @@ impl PlugEnd {
     pub fn sent(&mut self, n: usize)
         requires within { n ≤ length self.old.outgoing }
         ensures stands { (plugin : Plugin) (got sent printed : List ℕ) →
-            StandsFor plugin got sent printed self.old →
-            StandsFor plugin got (sent ++ take n self.old.outgoing) printed self.new }
+            StandsFor plugin_role plugin got sent printed self.old →
+            StandsFor plugin_role plugin got (sent ++ take n self.old.outgoing) printed self.new }
         ensures same { self.new ≡ record self.old { outgoing = drop n self.old.outgoing } }
     {
         self.core.outgoing.drain(..n);
@@ -128,18 +121,20 @@ impl PlugEnd {
     pub fn printed(&mut self, n: usize)
         requires within { n ≤ length self.old.journal }
         ensures stands { (plugin : Plugin) (got sent printed : List ℕ) →
-            StandsFor plugin got sent printed self.old →
-            StandsFor plugin got sent (printed ++ take n self.old.journal) self.new }
+            StandsFor plugin_role plugin got sent printed self.old →
+            StandsFor plugin_role plugin got sent (printed ++ take n self.old.journal) self.new }
         ensures same { self.new ≡ record self.old { journal = drop n self.old.journal } }
     {
         self.core.journal.drain(..n);
     }
 
     /// Serves what has come whole, until it waits for a message that isn't whole yet, was shut down, or
-    /// refuses a message. After want of memory every later run answers the same.
+    /// refuses a message. It is finished where the reply to Shutdown is in `outgoing`, or was cut off it;
+    /// what came behind Shutdown is left unread. After that, after a refusal and after want of memory every
+    /// later run answers the same.
     pub fn run(&mut self) -> Result<PlugState, NoMemory>
-        ensures keeps { OnOk result (Keeps self.old self.new) }
-        ensures rests { IfOk result (λ state. RestsAs self.new state) }
+        ensures keeps { OnOk result (Keeps plugin_role self.old self.new) }
+        ensures rests { IfOk result (λ state. RestsAs plugin_role self.new state) }
         ensures total { OnOk result (total_of self.new ≡ total_of self.old) }
         ensures failed { OnOk result (self.new.failed ≡ false) }
         ensures err { OnErr result (self.new.failed ≡ true) }
@@ -170,5 +165,43 @@ impl PlugEnd {
                 Err(NoMemory)
             }
         }
+    }
+}
+
+impl Endpoint for PlugEnd {
+    ghost use Rattle.np_model.specs.declared.script.Plugin.{Plugin};
+    ghost use Rattle.np_model.specs.PluginPlan.{PluginControl};
+    ghost use Rattle.np_model.specs.Alone.{plugin_role};
+
+    ghost Script = { Plugin };
+
+    ghost Control = { PluginControl };
+
+    ghost role_of = { plugin_role };
+
+    ghost seen = { λ e. e };
+
+    fn outgoing(&self) -> &[u8] {
+        PlugEnd::outgoing(self)
+    }
+
+    fn journal(&self) -> &[u8] {
+        PlugEnd::journal(self)
+    }
+
+    fn sent(&mut self, n: usize) {
+        PlugEnd::sent(self, n);
+    }
+
+    fn printed(&mut self, n: usize) {
+        PlugEnd::printed(self, n);
+    }
+
+    fn take(&mut self, bytes: &[u8]) -> Result<(), NoMemory> {
+        PlugEnd::take(self, bytes)
+    }
+
+    fn run(&mut self) -> Result<PlugState, NoMemory> {
+        PlugEnd::run(self)
     }
 }

@@ -4,29 +4,31 @@ ghost use Rattle.std.specs.Prelude.{◌≡◌, OnOk, IfOk, false};
 ghost use Rattle.np_model.specs.PluginRun.{IsListening};
 
 use crate::plug_core::Core;
-use crate::plug_end::PlugState;
+use np_endpoint::Halt;
 use np_laws::plugin_more_messages_law;
-use np_model::{PluginStage, Refusal};
+use np_model::PluginStage;
 use np_values::NoMemory;
 use np_wire::FeedError;
 
 impl Core {
-    ghost use Rattle.np_plug_end.specs.PlugEnd.{Keeps, RestsAs, seen, total_of};
+    ghost use Rattle.np_model.specs.Alone.{plugin_role};
+    ghost use Rattle.np_endpoint.specs.End.{Keeps, RestsAs, total_of};
+    ghost use Rattle.np_plug_end.specs.PlugEnd.{seen};
     ghost use Rattle.np_plug_end.specs.Core.{Listened};
-    ghost use Rattle.np_plug_end.specs.declared.plug_end.PlugState.TheVariants.{Waiting};
+    ghost use Rattle.np_endpoint.specs.declared.halt.Halt.TheVariants.{Waiting};
 
     /// Serves what has come whole, until it waits or was shut down, or refuses a message.
-    pub fn run(&mut self) -> Result<PlugState, NoMemory>
+    pub fn run(&mut self) -> Result<Halt, NoMemory>
         ensures keeps { IfOk result (λ state.
-            Keeps (seen self.old Waiting false) (seen self.new state false)) }
-        ensures rests { IfOk result (λ state. RestsAs (seen self.new state false) state) }
+            Keeps plugin_role (seen self.old Waiting false) (seen self.new state false)) }
+        ensures rests { IfOk result (λ state. RestsAs plugin_role (seen self.new state false) state) }
         ensures total { OnOk result (total_of (seen self.new Waiting false) ≡
             total_of (seen self.old Waiting false)) }
     {
         plugin_more_messages_law();
         loop {
             match self.stage {
-                PluginStage::Ended => return Ok(PlugState::Finished),
+                PluginStage::Ended => return Ok(Halt::Finished),
                 PluginStage::Begin | PluginStage::Serving => {
                     if let Some(state) = self.listen()? {
                         return Ok(state);
@@ -37,7 +39,7 @@ impl Core {
     }
 
     /// Meets the next message; where it can't go on, what it waits for or refuses.
-    fn listen(&mut self) -> Result<Option<PlugState>, NoMemory>
+    fn listen(&mut self) -> Result<Option<Halt>, NoMemory>
         requires listens { IsListening self.old.stage }
         ensures listened { IfOk result (λ halt. Listened self.old self.new halt) }
         ensures total { OnOk result (total_of (seen self.new Waiting false) ≡
@@ -45,20 +47,15 @@ impl Core {
     {
         let at = self.feed.consumed();
         match self.feed.next() {
-            Ok(None) => Ok(Some(PlugState::Waiting)),
+            Ok(None) => Ok(Some(Halt::Waiting)),
             Ok(Some(message)) => {
                 if let Some(fault) = self.fault(&message) {
-                    return Ok(Some(PlugState::Refused(Refusal {
-                        at,
-                        rule: fault.rule,
-                        first: fault.first,
-                        second: fault.second,
-                    })));
+                    return Ok(Some(Halt::Refused(fault.refusal(at))));
                 }
                 self.serve(&message)?;
                 Ok(None)
             }
-            Err(FeedError::Wire(error)) => Ok(Some(PlugState::Refused(error.refusal()))),
+            Err(FeedError::Wire(error)) => Ok(Some(Halt::Refused(error.refusal()))),
             Err(FeedError::NoMemory) => Err(NoMemory),
         }
     }

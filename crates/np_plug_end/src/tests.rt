@@ -1,5 +1,5 @@
 ghost use Rattle.std.specs.Prelude.{◌≡◌, ◌<◌, ◌≤◌, length, OnOk};
-ghost use Rattle.np_plug_end.specs.PlugEnd.{total_of};
+ghost use Rattle.np_endpoint.specs.End.{total_of};
 
 use super::*;
 use std::alloc::Global;

@@ -1,10 +1,10 @@
 pub mod Streams
-pub mod Stays
+pub mod SideAlone
+pub mod Unrefused
+pub mod ComesToRest
 pub mod Texts
 pub mod FewBytes
 pub mod PluginTexts
 pub mod CallBytes
-pub mod PluginUnrefused
-pub mod Unrefused
 pub mod Rests
 pub mod PluginRests

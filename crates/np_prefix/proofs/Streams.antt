@@ -1,7 +1,7 @@
 -- Bytes are taken apart into messages in one way.
 use Rattle.std.proofs.Common.{◌≡◌, ◌≢◌, ℕ, ◌<◌, ◌≤◌, List, [], ◌∷◌, ◌++◌, length, refl, sym, ap, ◌∙◌, append_assoc, arith, ◌⊎◌, inl, inr, ⊎_elim}
 use Rattle.std.proofs.lemmas.Bool.{cases_lt}
-use Rattle.std.proofs.lemmas.List.{length-append, take-append-le}
+use Rattle.std.proofs.lemmas.List.{append-nil, length-append, take-append-le}
 use Rattle.std.specs.Int.{w32, from_be_bytes}
 use Rattle.np_model.specs.declared.message.Message.{Message}
 use Rattle.np_model.specs.Encoding.{encoding, encodings, KeepsFormat, IsTyped}
@@ -78,6 +78,13 @@ empty-waits w at bytes more e =
     let nil : bytes ≡ [] = nil-left bytes more e in
     let few : length bytes < 4 = omega (arith, ap length nil) in
     (w at bytes).1 (inl few)
+
+-- messages whose bytes begin the given ones begin those that are sent, whose bytes the given ones begin
+pub begins-text : Wire → WaitsAlways → (messages sent : List Message) (given left rest : List ℕ) → AreMessages messages → AreMessages sent → given ≡ encodings messages ++ left → encodings sent ≡ given ++ rest → Continues messages sent (left ++ rest) []
+begins-text w v messages sent given left rest are all is text =
+    let nothing : [] ++ [] ≡ [] = refl in
+    let same : encodings messages ++ (left ++ rest) ≡ encodings sent ++ [] = sym (append_assoc (encodings messages) left rest) ∙ ap (λ l. l ++ rest) (sym is) ∙ sym text ∙ sym (append-nil (encodings sent)) in
+    continues w 0 messages sent (left ++ rest) [] are all (empty-waits v 0 [] [] nothing) same
 
 -- bytes that begin a message and others are cut short, or the message stands at their front
 pub begun-or-whole : Wire → Waiting → (bytes more rest : List ℕ) (m : Message) → KeepsFormat m → IsTyped m.body → bytes ++ more ≡ encoding m ++ rest → ((at : ℕ) → front at bytes ≡ Partial) ⊎ ((behind : List ℕ) × (bytes ≡ encoding m ++ behind))

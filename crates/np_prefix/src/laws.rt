@@ -1,3 +1,5 @@
+ghost use Rattle.np_model.specs.PagePlan.{PageControl};
+ghost use Rattle.np_model.specs.PluginPlan.{PluginControl};
 ghost use Rattle.np_prefix.specs.Prefix.{NeverRefusesLaw, WaitsLaw, EndsLaw, ComesToRestLaw, RestsUnrefusedLaw, BeginsLaw, OneWholeLaw, FewBytesLaw};
 
 /// Nothing of a prefix of the plug-in's wire text is refused.
@@ -52,14 +54,17 @@ pub fn comes_to_rest_law()
     np_laws::cut_law();
 }
 
-/// Where the page waits, or has ended, it refuses nothing of the bytes that it was given.
+/// Where a side waits, or has ended, no place of it refuses anything of the bytes that it was given,
+/// whoever sent them.
 pub fn rests_unrefused_law()
-    ensures law { RestsUnrefusedLaw }
+    ensures page { RestsUnrefusedLaw PageControl }
+    ensures plugin { RestsUnrefusedLaw PluginControl }
 {
     np_wire::encoded_is_read_again();
     np_wire::no_encoding_begins_another();
     np_wire::partial_is_cut_short();
     np_laws::more_messages_law();
+    np_laws::plugin_more_messages_law();
 }
 
 /// What the page printed and sent stays where it comes to rest.

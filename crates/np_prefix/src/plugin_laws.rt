@@ -1,4 +1,4 @@
-ghost use Rattle.np_prefix.specs.PluginPrefix.{PluginWaitsLaw, PluginEndsLaw, PluginNeverRefusesLaw, PluginBeginsLaw, PluginComesToRestLaw, PageFewBytesLaw, PluginRestsUnrefusedLaw};
+ghost use Rattle.np_prefix.specs.PluginPrefix.{PluginWaitsLaw, PluginEndsLaw, PluginNeverRefusesLaw, PluginBeginsLaw, PluginComesToRestLaw, PageFewBytesLaw};
 
 /// Nothing of a prefix of the page's wire text is refused.
 pub fn plugin_never_refuses_law()
@@ -69,15 +69,4 @@ pub fn page_few_bytes_law()
     np_laws::rounds_law();
     np_laws::endpoint_law();
     np_laws::few_calls_law();
-}
-
-/// Where the plug-in waits or has ended, no place of it refuses anything of the bytes that it was
-/// given, whoever sent them.
-pub fn plugin_rests_unrefused_law()
-    ensures law { PluginRestsUnrefusedLaw }
-{
-    np_wire::encoded_is_read_again();
-    np_wire::no_encoding_begins_another();
-    np_wire::partial_is_cut_short();
-    np_laws::plugin_more_messages_law();
 }

@@ -21,5 +21,4 @@ fn each_law_of_the_plugin_stands(_rt: HostRuntime) {
     plugin_begins_law();
     plugin_comes_to_rest_law();
     page_few_bytes_law();
-    plugin_rests_unrefused_law();
 }

@@ -17,7 +17,7 @@ pub returns-in-Ok-clause-never_refused : goal.returns-in-Ok-clause-never_refused
 returns-in-Ok-clause-never_refused g c = λ is. follows-refused c.pages_are_well_formed.ensures.law c.never_refuses_law.ensures.law c.few_bytes_law.ensures.law (texts c.args.words.now) (g.F.Files.contents c.args.files.now) (g.P.Peer.known c.args.peer.now) (g.P.Peer.known c.serve.new.peer) (g.O.Sink.taken c.args.out.now) (g.O.Sink.taken c.serve.new.out) c.in-Ok.status is c.in-Ok.ensures.runs
 
 pub returns-in-Ok-clause-unrefused : goal.returns-in-Ok-clause-unrefused
-returns-in-Ok-clause-unrefused g c = λ is. words-unrefused c.rests_unrefused_law.ensures.law (texts c.args.words.now) (g.F.Files.contents c.args.files.now) (g.P.Peer.known c.args.peer.now) (g.P.Peer.known c.serve.new.peer) (g.O.Sink.taken c.args.out.now) (g.O.Sink.taken c.serve.new.out) c.in-Ok.status is c.in-Ok.ensures.runs
+returns-in-Ok-clause-unrefused g c = λ is. words-unrefused c.rests_unrefused_law.ensures.page (texts c.args.words.now) (g.F.Files.contents c.args.files.now) (g.P.Peer.known c.args.peer.now) (g.P.Peer.known c.serve.new.peer) (g.O.Sink.taken c.args.out.now) (g.O.Sink.taken c.serve.new.out) c.in-Ok.status is c.in-Ok.ensures.runs
 
 pub returns-in-Err-OutputFailed-clause-follows_cut : goal.returns-in-Err-OutputFailed-clause-follows_cut
 returns-in-Err-OutputFailed-clause-follows_cut g c = λ _. follows-cut (record { formed = c.pages_are_well_formed.ensures.law; waits = c.waits_law.ensures.law; ends = c.ends_law.ensures.law; begins = c.begins_law.ensures.law; rests = c.comes_to_rest_law.ensures.law; never = c.never_refuses_law.ensures.law; few = c.few_bytes_law.ensures.law }) _ _ (texts c.args.words.now) _ _ (g.F.Files.contents c.args.files.now) (g.P.Peer.known c.args.peer.now) (g.P.Peer.known c.serve.new.peer) (g.O.Sink.taken c.args.out.now) (g.O.Sink.taken c.serve.new.out) c.in-Err-OutputFailed.ensures.cut

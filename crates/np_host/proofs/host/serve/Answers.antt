@@ -6,7 +6,7 @@ use Rattle.np_ports.specs.Causes.{Rose}
 use Rattle.np_host.specs.Words.{RunWords, GivesRun, texts}
 use Rattle.np_host.specs.Host.{RunsPage, RunCut, NotStarted}
 use Rattle.np_host.proofs.RunWords.{words-are, of-words}
-use Rattle.np_host.specs.Closing.{CutShort}
+use Rattle.np_host.specs.Outcomes.{CutShort}
 use Rattle.np_host.proofs.PageCuts.{words-nothing}
 use Rattle.np_ending.proofs.Stops.{on-stop}
 use Rattle.np_host.proofs.host.serve.Goals as goal

@@ -1,5 +1,5 @@
 use Rattle.std.proofs.Common.{◌≡◌, ◌≤◌, ◌-◌, length}
-use Rattle.np_host_end.specs.HostEnd.{total_of}
+use Rattle.np_endpoint.specs.End.{total_of}
 use Rattle.np_host_end.proofs.tests.give.Given as goal
 
 abbrev pub invariant-loop-at : goal.invariant-loop-at

@@ -2,7 +2,7 @@ use Rattle.std.proofs.Common.{◌≡◌, true, inr}
 use Rattle.std.specs.Prelude.{string_bytes}
 use Rattle.np_plug.specs.Plug.{texts, script_word, RunsPlugin, RunCut, OnlyNoPlugin}
 use Rattle.np_ports.specs.Causes.{Rose}
-use Rattle.np_plug.specs.Closing.{CutShort}
+use Rattle.np_plug.specs.Outcomes.{CutShort}
 use Rattle.np_plug.proofs.ScriptWord.{script-is, of-script}
 use Rattle.np_plug.proofs.FollowsCuts.{follows-cut}
 use Rattle.np_plug.proofs.Follows.{follows-done, follows-left, follows-broken, follows-refused}
@@ -32,7 +32,7 @@ pub returns-in-Ok-clause-never_refused : goal.returns-in-Ok-clause-never_refused
 returns-in-Ok-clause-never_refused g c = λ is. follows-refused c.pages_are_well_formed.ensures.law c.plugin_never_refuses_law.ensures.law c.page_few_bytes_law.ensures.law (texts c.args.words.now) (g.F.Files.contents c.args.files.now) (g.P.Peer.known c.args.peer.now) (g.P.Peer.known c.run.new.peer) (g.O.Sink.taken c.args.notes.now) (g.O.Sink.taken c.run.new.notes) c.in-Ok.status is (returns-in-Ok-clause-runs g c)
 
 pub returns-in-Ok-clause-unrefused : goal.returns-in-Ok-clause-unrefused
-returns-in-Ok-clause-unrefused g c = λ is. words-unrefused c.plugin_rests_unrefused_law.ensures.law (texts c.args.words.now) (g.F.Files.contents c.args.files.now) (g.P.Peer.known c.args.peer.now) (g.P.Peer.known c.run.new.peer) (g.O.Sink.taken c.args.notes.now) (g.O.Sink.taken c.run.new.notes) c.in-Ok.status is (returns-in-Ok-clause-runs g c)
+returns-in-Ok-clause-unrefused g c = λ is. words-unrefused c.rests_unrefused_law.ensures.plugin (texts c.args.words.now) (g.F.Files.contents c.args.files.now) (g.P.Peer.known c.args.peer.now) (g.P.Peer.known c.run.new.peer) (g.O.Sink.taken c.args.notes.now) (g.O.Sink.taken c.run.new.notes) c.in-Ok.status is (returns-in-Ok-clause-runs g c)
 
 pub returns-in-Err-OutputFailed-clause-cut : goal.returns-in-Err-OutputFailed-clause-cut
 returns-in-Err-OutputFailed-clause-cut g c = λ is.

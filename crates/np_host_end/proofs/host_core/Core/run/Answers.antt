@@ -1,10 +1,9 @@
-use Rattle.std.proofs.Common.{◌+◌, length, Option, ap, subst, ◌∙◌}
+use Rattle.std.proofs.Common.{◌+◌, length, Option, refl, ap, subst, ◌∙◌}
 use Rattle.np_wire.specs.Feed.{Fed}
 use Rattle.np_host_end.specs.Core.{Listened, control_of}
-use Rattle.np_host_end.specs.declared.host_end.State.{State}
-use Rattle.np_host_end.proofs.CoreRuns.{acting-at, acted-keeps, listened-keeps, listened-lighter, halted}
+use Rattle.np_endpoint.specs.declared.halt.Halt.{Halt}
+use Rattle.np_host_end.proofs.CoreRuns.{acting-at, acted-keeps, listened-keeps, listened-lighter, halted, keeps-same, keeps-then, has-ended}
 use Rattle.np_host_end.proofs.Measures.{act-lighter}
-use Rattle.np_host_end.proofs.CoreRuns.{keeps-then}
 use Rattle.np_host_end.proofs.host_core.Core.run.Goals as goal
 
 pub loop-self-preserved : goal.loop-self-preserved
@@ -19,7 +18,7 @@ loop-self-smaller c = act-lighter c.loop-self.self.page (control_of c.loop-self.
 
 pub loop-self-preserved-in_default : goal.loop-self-preserved-in_default
 loop-self-preserved-in_default c =
-    let l = subst (λ (o : Option State). Listened c.loop-self.self c.listen.new.self o) c.in_default.is c.in_ok-state-in-Awaiting.ensures.listened in
+    let l = subst (λ (o : Option Halt). Listened c.loop-self.self c.listen.new.self o) c.in_default.is c.in_ok-state-in-Awaiting.ensures.listened in
     record {
       keeps = keeps-then _ _ _ c.loop-self.invariant.keeps (listened-keeps c.more_messages_law.ensures.law c.loop-self.self c.listen.new.self c.in-Awaiting.call c.in-Awaiting.is l);
       total = c.in_ok-state-in-Awaiting.ensures.total ∙ c.loop-self.invariant.total;
@@ -27,10 +26,18 @@ loop-self-preserved-in_default c =
 
 pub loop-self-smaller-in_default : goal.loop-self-smaller-in_default
 loop-self-smaller-in_default c =
-    let l = subst (λ (o : Option State). Listened c.loop-self.self c.listen.new.self o) c.in_default.is c.in_ok-state-in-Awaiting.ensures.listened in
+    let l = subst (λ (o : Option Halt). Listened c.loop-self.self c.listen.new.self o) c.in_default.is c.in_ok-state-in-Awaiting.ensures.listened in
     listened-lighter c.loop-self.self c.listen.new.self l
 
-pub returns-in-Some-clause-keeps : goal.returns-in-Some-clause-keeps
-returns-in-Some-clause-keeps c =
-    let l = subst (λ (o : Option State). Listened c.loop-self.self c.listen.new.self o) c.in-Some.is c.in_ok-state-in-Awaiting.ensures.listened in
-    keeps-then _ _ _ c.loop-self.invariant.keeps (halted c.loop-self.self c.listen.new.self c.in-Awaiting.call c.in-Some.state c.in-Awaiting.is l).keeps
+pub loop-self-init : goal.loop-self-init
+loop-self-init c = record { keeps = keeps-same _; total = refl }
+
+pub returns-in-Some : goal.returns-in-Some
+returns-in-Some c =
+    let l = subst (λ (o : Option Halt). Listened c.loop-self.self c.listen.new.self o) c.in-Some.is c.in_ok-state-in-Awaiting.ensures.listened in
+    let h = halted c.loop-self.self c.listen.new.self c.in-Awaiting.call c.in-Some.state c.in-Awaiting.is l in
+    let k = keeps-then _ _ _ c.loop-self.invariant.keeps h.keeps in
+    record { keeps = k.stands; lost = k.lost; rests = h.rests; total = c.in_ok-state-in-Awaiting.ensures.total ∙ c.loop-self.invariant.total }
+
+pub returns-in-Ended-clause-rests : goal.returns-in-Ended-clause-rests
+returns-in-Ended-clause-rests c = (refl, has-ended c.loop-self.self.page _ c.in-Ended.is)

@@ -1,13 +1,15 @@
 use Rattle.std.proofs.Common.{◌≡◌, false}
-use Rattle.np_host_end.specs.declared.host_end.State.TheVariants.{Waiting}
+use Rattle.np_endpoint.specs.declared.halt.Halt.TheVariants.{Waiting}
 use Rattle.np_host_end.specs.Core.{control_of}
-use Rattle.np_host_end.specs.HostEnd.{Keeps, seen, total_of}
+use Rattle.np_endpoint.specs.End.{total_of}
+use Rattle.np_host_end.specs.HostEnd.{seen}
+use Rattle.np_host_end.proofs.CoreRuns.{KeepsBoth}
 use Rattle.np_host_end.proofs.Measures.{weight}
 use Rattle.np_host_end.proofs.host_core.Core.run.Given as goal
 
 abbrev pub invariant-loop-self : goal.invariant-loop-self
 invariant-loop-self l = record {
-  keeps : Keeps (seen l.initial.self Waiting false) (seen l.self Waiting false);
+  keeps : KeepsBoth (seen l.initial.self Waiting false) (seen l.self Waiting false);
   total : total_of (seen l.self Waiting false) ≡ total_of (seen l.initial.self Waiting false);
 }
 

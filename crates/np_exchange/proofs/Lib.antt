@@ -1,0 +1,5 @@
+pub mod PeerReads
+pub mod EndRests
+pub mod Exchanges
+pub mod Cuts
+pub mod Sessions

@@ -1,0 +1,26 @@
+use Rattle.std.proofs.Common.{Option, Some, None, subst, ◌∙◌, arith}
+use Rattle.np_ending.specs.declared.ending.Ending.{Ending}
+use Rattle.np_exchange.specs.Live.{Turned}
+use Rattle.np_exchange.proofs.Sessions.{turned-then}
+use Rattle.np_exchange.proofs.Cuts.{turned-cut}
+use Rattle.np_ending.proofs.Stops.{on-stop}
+use Rattle.np_exchange.proofs.exchange.talk.Goals as goal
+
+pub returns-in-Some-clause-talked : goal.returns-in-Some-clause-talked
+returns-in-Some-clause-talked g c =
+    turned-then g.E.Endpoint.role_of _ (g.P.Peer.known c.loop-next.peer) _ _ (g.O.Sink.taken c.loop-next.out) _ (g.E.Endpoint.seen c.args.end.now) (g.E.Endpoint.seen c.loop-next.end) (g.E.Endpoint.seen c.turn.new.end) (Some c.in-Some.ending) c.loop-next.invariant.turned
+    (subst (λ (x : Option Ending). Turned g.E.Endpoint.role_of (g.P.Peer.known c.loop-next.peer) (g.P.Peer.known c.turn.new.peer) (g.O.Sink.taken c.loop-next.out) (g.O.Sink.taken c.turn.new.out) (g.E.Endpoint.seen c.loop-next.end) (g.E.Endpoint.seen c.turn.new.end) x) c.in-Some.is c.in_ok-next.ensures.turned)
+
+pub loop-next-preserved : goal.loop-next-preserved
+loop-next-preserved g c = record {
+  turned = turned-then g.E.Endpoint.role_of _ (g.P.Peer.known c.loop-next.peer) _ _ (g.O.Sink.taken c.loop-next.out) _ (g.E.Endpoint.seen c.args.end.now) (g.E.Endpoint.seen c.loop-next.end) (g.E.Endpoint.seen c.turn.new.end) None c.loop-next.invariant.turned
+      (subst (λ (x : Option Ending). Turned g.E.Endpoint.role_of (g.P.Peer.known c.loop-next.peer) (g.P.Peer.known c.turn.new.peer) (g.O.Sink.taken c.loop-next.out) (g.O.Sink.taken c.turn.new.out) (g.E.Endpoint.seen c.loop-next.end) (g.E.Endpoint.seen c.turn.new.end) x) c.in_default.is c.in_ok-next.ensures.turned);
+  total = c.in_ok-next.ensures.total;
+  limit = c.in_ok-next.ensures.limit;
+  peer = omega (arith, c.loop-next.invariant.peer, c.in_ok-next.ensures.peer.later);
+  start = c.in_ok-next.ensures.start_faults ∙ c.loop-next.invariant.start;
+  sink = omega (arith, c.loop-next.invariant.sink, c.in_ok-next.ensures.sink.later);
+}
+
+pub returns-in_err-next-clause-cut : goal.returns-in_err-next-clause-cut
+returns-in_err-next-clause-cut g c = on-stop c.from_residual.result _ (turned-cut g.E.Endpoint.role_of _ (g.P.Peer.known c.loop-next.peer) _ _ (g.O.Sink.taken c.loop-next.out) _ (g.E.Endpoint.seen c.args.end.now) (g.E.Endpoint.seen c.loop-next.end) c.loop-next.invariant.turned c.in_err-next.ensures.cut)

@@ -1,0 +1,9 @@
+pub mod Session
+pub mod Closing
+pub mod Flow
+pub mod Live
+pub use Rattle.np_model.specs.Alone
+pub use Rattle.np_endpoint.specs.End
+pub use Rattle.np_ending.specs.Causes
+pub use Rattle.np_ending.specs.PeerCauses
+pub use Rattle.np_ending.specs.Status

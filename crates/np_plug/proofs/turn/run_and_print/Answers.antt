@@ -1,6 +1,0 @@
-use Rattle.std.proofs.Common.{inr}
-use Rattle.np_ending.proofs.Stops.{on-stop}
-use Rattle.np_plug.proofs.turn.run_and_print.Goals as goal
-
-pub returns-in_err-print_journal-clause-cut : goal.returns-in_err-print_journal-clause-cut
-returns-in_err-print_journal-clause-cut g c = on-stop c.from_residual-in_err-print_journal.result _ (inr (c.run.new.self, c.in_ok-state.ensures.keeps, c.in_err-print_journal.ensures.part))
