@@ -1,0 +1,2 @@
+mod WorkedLines
+mod WorkedScripts

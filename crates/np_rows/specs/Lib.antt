@@ -1,0 +1,7 @@
+pub mod Takes
+pub mod Actions
+pub mod Commands
+pub mod Laws
+pub use Rattle.np_grammar.specs.Forms
+pub use Rattle.np_grammar.specs.Tables
+pub use Rattle.np_grammar.specs.Rows

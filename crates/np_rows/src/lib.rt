@@ -1,0 +1,21 @@
+//! The actions and commands of scripts, row by row: from the fields of a line, and back.
+#![tactic(auto)]
+
+mod actions;
+mod commands;
+mod fields;
+mod laws;
+mod own_actions;
+mod page_commands;
+mod plain_actions;
+
+pub use actions::action;
+pub use commands::command;
+pub use fields::Fields;
+pub use laws::{
+    actions_are_read, actions_were_lines, commands_are_read, commands_were_lines,
+    lines_say_actions, lines_say_commands,
+};
+
+#[cfg(test)]
+mod tests;
