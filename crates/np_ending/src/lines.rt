@@ -61,7 +61,7 @@ fn print_line<O: Sink>(out: &mut O, line: &str, status: u8) -> Result<u8, Stop>
 }
 
 /// Prints the end line of a status, and answers that status. After an error a part of the line was printed.
-#[tactic(auto, using(crate::proofs::EndLines::nothing_added))]
+#[tactic(auto, using(crate::proofs::EndLines::nothing_added, crate::proofs::EndLines::end_line_is_some))]
 pub fn finish<O: Sink>(alloc: Global, out: &mut O, status: u8) -> Result<u8, Stop>
     ensures status { IfOk result (λ s. s ≡ status) }
     ensures printed { OnOk result (Adds (O.taken out.old) (O.taken out.new) (end_line status)) }
@@ -77,7 +77,7 @@ pub fn finish<O: Sink>(alloc: Global, out: &mut O, status: u8) -> Result<u8, Sto
 
 /// Prints the end line of a refusal, and answers its status, 7. After an error a part of the line was
 /// printed.
-#[tactic(auto, using(crate::proofs::EndLines::nothing_added))]
+#[tactic(auto, using(crate::proofs::EndLines::nothing_added, crate::proofs::EndLines::refused_line_is_some))]
 pub fn finish_refused<O: Sink>(alloc: Global, out: &mut O, refusal: Refusal) -> Result<u8, Stop>
     ensures status { IfOk result (λ s. s ≡ 7) }
     ensures printed { OnOk result (Adds (O.taken out.old) (O.taken out.new) (refused_line refusal)) }

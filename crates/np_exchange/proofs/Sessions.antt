@@ -77,7 +77,7 @@ completes role_of script old now first sink e a =
 pub first-begins : (first printed sink x : List ℕ) → sink ≡ first ++ printed → BeginsWith (sink ++ x) first
 first-begins first printed sink x is = record { rest = printed ++ x; parts = ap (λ (l : List ℕ). l ++ x) is ∙ append_assoc first printed x }
 
-pub more-begins : (sink line x y : List ℕ) → line ≡ x ++ y → BeginsWith (sink ++ line) (sink ++ x)
+abbrev pub more-begins : (sink line x y : List ℕ) → line ≡ x ++ y → BeginsWith (sink ++ line) (sink ++ x)
 more-begins sink line x y parts = record { rest = y; parts = ap (λ (l : List ℕ). sink ++ l) parts ∙ sym (append_assoc sink x y) }
 
 -- ---- the whole session

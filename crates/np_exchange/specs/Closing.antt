@@ -1,5 +1,5 @@
 -- How a session ends, whatever is printed after its exchange. (This project's own.)
-use Rattle.std.specs.Prelude.{◌≡◌, ℕ, List, ◌⊎◌, Option, Some}
+use Rattle.std.specs.Prelude.{◌≡◌, ℕ, ◌<◌, List, length, ◌⊎◌, Option, Some}
 use Rattle.np_model.specs.Alone.{Role}
 use Rattle.np_ports.specs.Peer.{Known}
 use Rattle.np_ending.specs.declared.ending.Ending.{Ending}
@@ -18,11 +18,12 @@ EndsWith outcome known0 known1 taken0 taken1 status = (ending : Ending) × (stat
 abbrev pub IsUnrefusedStatus : ℕ → Type 0
 IsUnrefusedStatus status = (status ≡ 0) ⊎ ((status ≡ 5) ⊎ (status ≡ 6))
 
--- After the exchange came to this ending, the sink took a part of the lines that it takes at the status of the ending.
+-- After the exchange came to this ending, the sink took a part of the lines that it takes at the status of the ending, and not all.
 pub record CutAtEnding (outcome : Ending → Outcome) (old : Known) (first : List ℕ) (new : Known) (sink : List ℕ) (ending : Ending) : Type 0 where
   pub whole : List ℕ
   pub reached : outcome ending old first new whole
   pub part : BeginsWith whole sink
+  pub unfinished : 0 < length part.rest
   pub first_stays : BeginsWith sink first
 
 -- Statuses 8 and 10 once the side had begun: in the midst of the exchange, or after it came to an ending.

@@ -19,6 +19,7 @@ use Rattle.np_ending.specs.declared.ending.Ending.{Ending}
 use Rattle.np_ending.specs.declared.ending.Ending.TheVariants.{Done, Unsent, Ended, Failed, Refused}
 use Rattle.np_ending.specs.Causes.{AddsPart, BeginsWith}
 use Rattle.np_ending.specs.Status.{ending_line}
+use Rattle.np_ending.proofs.EndLines.{some_behind, ending_line_is_some}
 use Rattle.np_ending.proofs.Parts.{begins-append, begins-then}
 use Rattle.np_exchange.specs.Live.{AtEnding}
 use Rattle.np_exchange.specs.Closing.{ClosedPart}
@@ -104,6 +105,7 @@ page-part taken0 taken1 e ending kind is end adds = subst (λ (x : Ending). Clos
         whole = sink ++ ending_line kind;
         reached = page-end page old now first sink e kind end a;
         part = more-begins sink (ending_line kind) p.0 p.1 p.2;
+        unfinished = p.4;
         first_stays = first-begins first a.live.printed sink p.0 a.live.sink_is;
       },
     ))
@@ -119,6 +121,7 @@ loss-part taken0 taken1 taken2 e ending kind is lost alone adds = subst (λ (x :
         whole = (sink ++ x.lines) ++ ending_line kind;
         reached = loss page old now first sink x.lines e kind lost a x.goes_on;
         part = more-begins (sink ++ x.lines) (ending_line kind) p.0 p.1 p.2;
+        unfinished = p.4;
         first_stays = first-begins first (a.live.printed ++ x.lines) (sink ++ x.lines) p.0 (ap (λ (l : List ℕ). l ++ x.lines) a.live.sink_is ∙ append_assoc first a.live.printed x.lines);
       },
     ))
@@ -134,6 +137,7 @@ losing-part taken0 taken1 e ending kind is lost alone = subst (λ (x : Ending). 
         whole = (sink ++ x.lines) ++ ending_line kind;
         reached = loss page old now first sink x.lines e kind lost a (record { last = x.last; lost = x.lost; lines_are = x.lines_are });
         part = begins-then ((sink ++ x.lines) ++ ending_line kind) (sink ++ x.lines) (sink ++ x.part) (begins-append (sink ++ x.lines) (ending_line kind)) (more-begins sink x.lines x.part x.lines_part.rest x.lines_part.parts);
+        unfinished = some_behind x.lines_part.rest (ending_line kind) (ending_line_is_some kind);
         first_stays = first-begins first l.printed sink x.part l.sink_is;
       },
     ))

@@ -60,7 +60,7 @@ outcome-follows laws page plugin old first new sink given (endings.Refused r) sh
 
 cut-follows : RunLaws → (pipe_failed peer_ended : Type 0) (page : Page) (old : Known) (first : List ℕ) (new : Known) (sink : List ℕ) → length page.commands ≤ 1048576 → CutShort pipe_failed peer_ended page old first new sink → ForEachPlugin HostCut page old first new sink
 cut-follows laws pipe_failed peer_ended page old first new sink short (inl c) plugin given e t = inl (interrupted-follows laws page plugin old first new sink given c e t)
-cut-follows laws pipe_failed peer_ended page old first new sink short (inr (ending, reason, c)) plugin given e t = inr (c.whole, c.part, c.first_stays, outcome-follows laws page plugin old first new c.whole given ending short c.reached e t)
+cut-follows laws pipe_failed peer_ended page old first new sink short (inr (ending, reason, c)) plugin given e t = inr (c.whole, c.part, c.unfinished, c.first_stays, outcome-follows laws page plugin old first new c.whole given ending short c.reached e t)
 
 -- ---- of a run of the host
 

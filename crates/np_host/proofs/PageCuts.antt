@@ -13,7 +13,7 @@ use Rattle.np_host.specs.Words.{RunWords, run_words}
 use Rattle.np_exchange.specs.Session.{Told}
 use Rattle.np_host.specs.Outcomes.{CutShort}
 use Rattle.np_host.specs.Host.{IsDueEarly, RunCut, OfWords, CutWords}
-use Rattle.np_ending.proofs.Parts.{nothing-added}
+use Rattle.np_ending.proofs.EndLines.{nothing_added, end_line_is_some}
 use Rattle.np_host.proofs.Pages.{WasRead, page-is, no-page}
 
 -- ---- before the page began
@@ -21,7 +21,7 @@ use Rattle.np_host.proofs.Pages.{WasRead, page-is, no-page}
 -- nothing was done
 pub nothing-cut : (pipe_failed peer_ended : Type 0) (name : List ℕ) (program : List (List ℕ)) (file_failed start_failed : Type 0) (files : Option Contents) (known0 known1 : Option Known) (taken : Option (List ℕ)) → ((old : Known) → known0 ≡ Some old → known1 ≡ Some old) → RunCut (CutShort pipe_failed peer_ended) name program file_failed start_failed files known0 known1 taken taken
 nothing-cut pipe_failed peer_ended name program file_failed start_failed files known0 known1 taken stays f old first told k o =
-    (old, first, stays old k, o, inl (record { status = 4; line = []; due = inl (refl, refl); line_part = record { rest = end_line 4; parts = refl }; printed = sym (append-nil first) }))
+    (old, first, stays old k, o, inl (record { status = 4; line = []; due = inl (refl, refl); line_part = record { rest = end_line 4; parts = refl }; unfinished = end_line_is_some 4; printed = sym (append-nil first) }))
 
 -- the end line of this status was due
 abbrev pub DueEarly : List ℕ → List (List ℕ) → Type 0 → Type 0 → Option Contents → Option Known → Option Known → ℕ → Type 0
@@ -31,7 +31,7 @@ pub early-cut : (pipe_failed peer_ended : Type 0) (name : List ℕ) (program : L
 early-cut pipe_failed peer_ended name program file_failed start_failed files known0 known1 taken0 taken1 status due adds f old first told k o =
     let d = due f old told k in
     let p = adds first o in
-    (d.0, first ++ p.0, d.1, p.3, inl (record { status = status; line = p.0; due = inr d.2; line_part = record { rest = p.1; parts = p.2 }; printed = refl }))
+    (d.0, first ++ p.0, d.1, p.3, inl (record { status = status; line = p.0; due = inr d.2; line_part = record { rest = p.1; parts = p.2 }; unfinished = p.4; printed = refl }))
 
 pub due-script : (name : List ℕ) (program : List (List ℕ)) (file_failed start_failed : Type 0) (files0 files1 : Option Contents) (bytes seen : List ℕ) (known : Option Known) → WasRead files0 files1 name bytes → seen ≡ bytes → page_of seen ≡ None → DueEarly name program file_failed start_failed files0 known known 3
 due-script name program file_failed start_failed files0 files1 bytes seen known read same none f old told k = (old, k, inl (refl, no-page files0 files1 name bytes seen read same none f told, refl))
@@ -65,5 +65,5 @@ pub words-nothing : (pipe_failed peer_ended : Type 0) (words : List (List ℕ)) 
 words-nothing pipe_failed peer_ended words file_failed start_failed files known taken = at (run_words words)
   where
     at : (o : Option RunWords) → OfWords o (λ r. RunCut (CutShort pipe_failed peer_ended) r.page r.program file_failed start_failed files known known taken taken) ((known ≡ known) × AddsPart taken taken (end_line 2))
-    at None = (refl, nothing-added taken (end_line 2))
+    at None = (refl, nothing_added taken (end_line 2) (end_line_is_some 2))
     at (Some r) = nothing-cut pipe_failed peer_ended r.page r.program file_failed start_failed files known known taken (λ old k. k)

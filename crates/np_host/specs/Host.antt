@@ -42,12 +42,13 @@ IsDueEarly file program file_failed start_failed old new status =
     ((status ≡ 3) × (file ≡ None) × (new ≡ old))
     ⊎ (((status ≡ 4) × file_failed × (new ≡ old)) ⊎ ((status ≡ 11) × start_failed × (new ≡ started old program)))
 
--- Statuses 8 and 10 before the page began: a part of the end line that was due was printed; or nothing was, and the peer was not called.
+-- Statuses 8 and 10 before the page began: a part of the end line that was due was printed, and not all; or nothing was, and the peer was not called.
 pub record CutEarly (file : Option Page) (program : List (List ℕ)) (file_failed start_failed : Type 0) (old : Known) (first : List ℕ) (new : Known) (sink : List ℕ) : Type 0 where
   pub status : ℕ
   pub line : List ℕ
   pub due : ((line ≡ []) × (new ≡ old)) ⊎ IsDueEarly file program file_failed start_failed old new status
   pub line_part : BeginsWith (end_line status) line
+  pub unfinished : 0 < length line_part.rest
   pub printed : sink ≡ first ++ line
 
 -- Where the files, the peer and the sink tell: the run was cut short before its page began, or this holds of the page, over a peer that was started once, with the words of the program.

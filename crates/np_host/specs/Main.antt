@@ -1,5 +1,5 @@
 -- The main theorem: what the host did is what the one process does.
-use Rattle.std.specs.Prelude.{◌≡◌, ℕ, ◌-◌, List, ◌++◌, ◌⊎◌, length, take, Option, Some}
+use Rattle.std.specs.Prelude.{◌≡◌, ℕ, ◌-◌, ◌<◌, List, ◌++◌, ◌⊎◌, length, take, Option, Some}
 use Rattle.std.specs.List.{AllByRecursion}
 use Rattle.np_model.specs.declared.script.Page.{Page}
 use Rattle.np_model.specs.declared.page.Stage.TheVariants.{Ended}
@@ -85,11 +85,11 @@ pub record HostInterrupted (page : Page) (plugin : Plugin) (old : Known) (first 
   pub taken_part : BeginsWith (encodings side.sent) taken
   pub exchange : FollowsExchange page plugin old new given taken
 
--- Statuses 8 and 10: so, or the sink took a part of the lines that it takes at 0, 5 or 6.
+-- Statuses 8 and 10: so, or the sink took a part of the lines that it takes at 0, 5 or 6, and not all.
 abbrev pub HostCut : Page → Plugin → Known → List ℕ → Known → List ℕ → List ℕ → Type 0
 HostCut page plugin old first new sink given =
     HostInterrupted page plugin old first new sink given
-    ⊎ ((whole : List ℕ) × BeginsWith whole sink × BeginsWith sink first
+    ⊎ ((whole : List ℕ) × (part : BeginsWith whole sink) × (0 < length part.rest) × BeginsWith sink first
     × (HostDone page plugin old first new whole given ⊎ (HostLost page plugin old first new whole given ⊎ HostBroken page plugin old first new whole given)))
 
 -- this holds for each plug-in whose wire text in the run of both begins with the bytes that the peer gave

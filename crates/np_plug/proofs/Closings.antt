@@ -81,6 +81,7 @@ closed-part taken0 taken1 e ending adds plugin old now first sink o a =
         whole = sink ++ ending_line ending;
         reached = outcome plugin old now first sink e ending a;
         part = more-begins sink (ending_line ending) p.0 p.1 p.2;
+        unfinished = p.4;
         first_stays = first-begins first a.live.printed sink p.0 a.live.sink_is;
       },
     )

@@ -60,7 +60,7 @@ cut-follows : RunLaws → (pipe_failed peer_ended : Type 0) (plugin : Plugin) (o
 cut-follows laws pipe_failed peer_ended plugin old first new sink (inl c) page given scripted e t = inl (interrupted-follows laws page plugin old first new sink given c (laws.formed scripted.script page scripted.says).0 e t)
 cut-follows laws pipe_failed peer_ended plugin old first new sink (inr (ending, reason, c)) page given scripted e t =
     let w = laws.formed scripted.script page scripted.says in
-    inr (c.whole, c.part, c.first_stays, outcome-follows laws page plugin old first new c.whole given ending w.1 c.reached w.0 e t)
+    inr (c.whole, c.part, c.unfinished, c.first_stays, outcome-follows laws page plugin old first new c.whole given ending w.1 c.reached w.0 e t)
 
 -- ---- of a run of the plug-in program
 

@@ -6,6 +6,7 @@ use Rattle.np_model.specs.Journal.{end_line}
 use Rattle.np_ports.specs.Peer.{Known}
 use Rattle.np_ports.specs.Files.{Contents}
 use Rattle.np_ending.specs.Causes.{AddsPart}
+use Rattle.np_ending.proofs.EndLines.{end_line_is_some}
 use Rattle.np_exchange.specs.Session.{Told}
 use Rattle.np_plug.specs.Plug.{IsDueEarly, RunCut}
 use Rattle.np_plug.proofs.Scripts.{WasRead, plugin-is, no-plugin}
@@ -13,7 +14,7 @@ use Rattle.np_plug.proofs.Scripts.{WasRead, plugin-is, no-plugin}
 -- nothing was done
 pub nothing-cut : (outcome : Plugin → Known → List ℕ → Known → List ℕ → Type 0) (name : List ℕ) (file_failed : Type 0) (files : Option Contents) (known : Option Known) (taken : Option (List ℕ)) → RunCut outcome name file_failed files known known taken taken
 nothing-cut outcome name file_failed files known taken f old first told k o =
-    (old, first, k, o, inl (record { status = 4; line = []; due = inl refl; uncalled = refl; line_part = record { rest = end_line 4; parts = refl }; printed = sym (append-nil first) }))
+    (old, first, k, o, inl (record { status = 4; line = []; due = inl refl; uncalled = refl; line_part = record { rest = end_line 4; parts = refl }; unfinished = end_line_is_some 4; printed = sym (append-nil first) }))
 
 -- the end line of this status was due
 abbrev pub DueEarly : List ℕ → Type 0 → Option Contents → ℕ → Type 0
@@ -22,7 +23,7 @@ DueEarly name file_failed files status = (f : Contents) → files ≡ Some f →
 pub early-cut : (outcome : Plugin → Known → List ℕ → Known → List ℕ → Type 0) (name : List ℕ) (file_failed : Type 0) (files : Option Contents) (known : Option Known) (taken0 taken1 : Option (List ℕ)) (status : ℕ) → DueEarly name file_failed files status → AddsPart taken0 taken1 (end_line status) → RunCut outcome name file_failed files known known taken0 taken1
 early-cut outcome name file_failed files known taken0 taken1 status due adds f old first told k o =
     let p = adds first o in
-    (old, first ++ p.0, k, p.3, inl (record { status = status; line = p.0; due = inr (due f told); uncalled = refl; line_part = record { rest = p.1; parts = p.2 }; printed = refl }))
+    (old, first ++ p.0, k, p.3, inl (record { status = status; line = p.0; due = inr (due f told); uncalled = refl; line_part = record { rest = p.1; parts = p.2 }; unfinished = p.4; printed = refl }))
 
 pub due-file : (name : List ℕ) (file_failed : Type 0) (files : Option Contents) → file_failed → DueEarly name file_failed files 4
 due-file name file_failed files failed f told = inr (refl, failed)

@@ -1,5 +1,5 @@
 -- The main theorem: what the plug-in program did is what the plug-in of the one process does.
-use Rattle.std.specs.Prelude.{◌≡◌, ℕ, ◌-◌, List, ◌++◌, ◌⊎◌, length, take, Option, Some}
+use Rattle.std.specs.Prelude.{◌≡◌, ℕ, ◌-◌, ◌<◌, List, ◌++◌, ◌⊎◌, length, take, Option, Some}
 use Rattle.std.specs.List.{AllByRecursion}
 use Rattle.np_model.specs.declared.script.Page.{Page}
 use Rattle.np_model.specs.declared.script.Plugin.{Plugin}
@@ -80,11 +80,11 @@ pub record PluginInterrupted (page : Page) (plugin : Plugin) (old : Known) (firs
   pub taken_part : BeginsWith (encodings side.sent) taken
   pub exchange : FollowsExchange page plugin old new given taken
 
--- Statuses 8 and 10: so, or the sink took a part of the lines that it takes at 0, 5 or 6.
+-- Statuses 8 and 10: so, or the sink took a part of the lines that it takes at 0, 5 or 6, and not all.
 abbrev pub PluginCut : Page → Plugin → Known → List ℕ → Known → List ℕ → List ℕ → Type 0
 PluginCut page plugin old first new sink given =
     PluginInterrupted page plugin old first new sink given
-    ⊎ ((whole : List ℕ) × BeginsWith whole sink × BeginsWith sink first
+    ⊎ ((whole : List ℕ) × (part : BeginsWith whole sink) × (0 < length part.rest) × BeginsWith sink first
     × (PluginDone page plugin old first new whole given ⊎ (PluginLeft page plugin old first new whole given ⊎ PluginBroken page plugin old first new whole given)))
 
 -- this holds for each page script whose wire text in the run of both begins with the bytes that the peer gave

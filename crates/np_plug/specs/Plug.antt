@@ -46,13 +46,14 @@ StopsEarly known0 known1 taken0 taken1 status = (status ≡ 3) ⊎ (status ≡ 4
 abbrev pub IsDueEarly : Option Plugin → Type 0 → ℕ → Type 0
 IsDueEarly file file_failed status = ((status ≡ 3) × (file ≡ None)) ⊎ ((status ≡ 4) × file_failed)
 
--- Statuses 8 and 10 before the plug-in began: a part of the end line that was due was printed, or nothing was; the peer was not called.
+-- Statuses 8 and 10 before the plug-in began: a part of the end line that was due was printed, and not all, or nothing was; the peer was not called.
 pub record CutEarly (file : Option Plugin) (file_failed : Type 0) (old : Known) (first : List ℕ) (new : Known) (sink : List ℕ) : Type 0 where
   pub status : ℕ
   pub line : List ℕ
   pub due : (line ≡ []) ⊎ IsDueEarly file file_failed status
   pub uncalled : new ≡ old
   pub line_part : BeginsWith (end_line status) line
+  pub unfinished : 0 < length line_part.rest
   pub printed : sink ≡ first ++ line
 
 -- Where the files, the peer and the sink tell: the run was cut short before its plug-in began, or this holds of the plug-in.

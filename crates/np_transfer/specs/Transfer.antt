@@ -1,5 +1,5 @@
 -- What whole transfers do. (This project's own.)
-use Rattle.std.specs.Prelude.{◌≡◌, ℕ, List, [], ◌∷◌, ◌++◌, take, Option, Some, Result, Ok, Err}
+use Rattle.std.specs.Prelude.{◌≡◌, ℕ, ◌<◌, List, [], ◌∷◌, ◌++◌, length, take, Option, Some, Result, Ok, Err}
 use Rattle.std.specs.Global.{Vec}
 use Rattle.np_ports.specs.declared.error.PortError.{PortError}
 use Rattle.np_ports.specs.declared.error.PortError.TheVariants.{Failed, NoMemory}
@@ -8,10 +8,10 @@ use Rattle.np_ports.specs.declared.file_call.FileCall.TheVariants.{Read}
 use Rattle.np_ports.specs.Peer.{Known, took}
 use Rattle.np_ports.specs.Files.{Contents}
 
--- a sink took all of the bytes; after an error, a part of them
+-- a sink took all of the bytes; after an error, a part of them, and not all
 abbrev pub Prints : Option (List ℕ) → Option (List ℕ) → Result (Unit {0}) PortError → List ℕ → Type 0
 Prints old new (Ok x) bytes = (t : List ℕ) → old ≡ Some t → new ≡ Some (t ++ bytes)
-Prints old new (Err e) bytes = (t : List ℕ) → old ≡ Some t → (x : List ℕ) × (y : List ℕ) × (bytes ≡ x ++ y) × (new ≡ Some (t ++ x))
+Prints old new (Err e) bytes = (t : List ℕ) → old ≡ Some t → (x : List ℕ) × (y : List ℕ) × (bytes ≡ x ++ y) × (new ≡ Some (t ++ x)) × (0 < length y)
 
 -- a peer took all of the bytes; after an error, a part of them
 abbrev pub Sends : Option Known → Option Known → Result (Unit {0}) PortError → List ℕ → Type 0
