@@ -50,6 +50,15 @@ Turned {S} role_of known0 known1 taken0 taken1 e0 e1 ending =
     (script : S) (old now : Known) (first sink : List ℕ) → known0 ≡ Some now → taken0 ≡ Some sink → Going role_of script old first now sink e0 →
     (next : Known) × (more : List ℕ) × (known1 ≡ Some next) × (taken1 ≡ Some more) × After role_of script old first next more e1 ending
 
+-- where a message is refused, the peer isn't called in that turn; else 2^40 bytes were read and another read is due
+abbrev pub RefusesUncalled : Option Known → Option Known → Option Ending → Type 0
+RefusesUncalled known0 known1 None = Unit {0}
+RefusesUncalled known0 known1 (Some endings.Done) = Unit {0}
+RefusesUncalled known0 known1 (Some endings.Unsent) = Unit {0}
+RefusesUncalled known0 known1 (Some endings.Ended) = Unit {0}
+RefusesUncalled known0 known1 (Some endings.Failed) = Unit {0}
+RefusesUncalled known0 known1 (Some (endings.Refused r)) = (known1 ≡ known0) ⊎ (r ≡ too_many_bytes)
+
 -- the exchange came to its ending
 abbrev pub Talked : {S C : Type 0} → (S → Role C) → Option Known → Option Known → Option (List ℕ) → Option (List ℕ) → EndState S C → EndState S C → Ending → Type 0
 Talked role_of known0 known1 taken0 taken1 e0 e1 ending = Turned role_of known0 known1 taken0 taken1 e0 e1 (Some ending)

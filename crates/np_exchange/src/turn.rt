@@ -4,7 +4,7 @@ ghost use Rattle.std.specs.Prelude.{◌≡◌, ◌+◌, ◌≤◌, ◌<◌, ◌^
 ghost use Rattle.np_endpoint.specs.End.{total_of};
 ghost use Rattle.np_ending.specs.Causes.{SinkCause};
 ghost use Rattle.np_ending.specs.PeerCauses.{ReadCut, GoesOnOnly, IsMemoryOnly, EndingCause, EndedOnly};
-ghost use Rattle.np_exchange.specs.Live.{Ran, RanCut, Turned, TurnCut, HeardOn};
+ghost use Rattle.np_exchange.specs.Live.{Ran, RanCut, Turned, TurnCut, HeardOn, RefusesUncalled};
 
 use crate::flow::{listen, print_journal, send_messages};
 use np_ending::{Ending, Heard, Stop};
@@ -48,6 +48,7 @@ pub fn turn<E: Endpoint, P: Peer, O: Sink>(
     requires limit { total.old ≤ 2 ^ 40 }
     ensures cut { OnErr result (TurnCut E.role_of (P.known peer.old) (P.known peer.new) (O.taken out.old) (O.taken out.new) (E.seen end.old)) }
     ensures turned { IfOk result (λ ending. Turned E.role_of (P.known peer.old) (P.known peer.new) (O.taken out.old) (O.taken out.new) (E.seen end.old) (E.seen end.new) ending) }
+    ensures uncalled { IfOk result (λ ending. RefusesUncalled (P.known peer.old) (P.known peer.new) ending) }
     ensures total { OnOk result (total_of (E.seen end.new) ≡ total.new) }
     ensures limit { OnOk result (total.new ≤ 2 ^ 40) }
     ensures more { IfOk result (λ ending. GoesOnOnly ending (total.old < total.new)) }

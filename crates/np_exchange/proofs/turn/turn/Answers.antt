@@ -41,6 +41,7 @@ returns-in_err-halt-clause-cut g c = on-stop c.from_residual.result _ (run-cut g
 pub returns-in_err-sent : goal.returns-in_err-sent
 returns-in_err-sent g c = record {
   turned = search rules;
+  uncalled = search rules;
   cut = on-stop c.from_residual-in_err-sent.result _ (send-cut g.E.Endpoint.role_of _ _ _ _ (g.E.Endpoint.seen c.args.end.now) (g.E.Endpoint.seen c.run_and_print.new.end) c.in_ok-halt.halt c.in_ok-halt.ensures.ran c.in_err-sent.ensures.part);
   total = search rules;
   limit = search rules;
@@ -54,6 +55,7 @@ returns-in_err-sent g c = record {
 pub returns-in_err-ending : goal.returns-in_err-ending
 returns-in_err-ending g c = record {
   turned = search rules;
+  uncalled = search rules;
   cut = on-stop c.from_residual-in_err-ending.result _ (λ script old now first sink k o going.
       read-cut g.E.Endpoint.role_of _ _ _ (g.E.Endpoint.seen c.send_messages.new.end) script old first c.in_err-ending.ensures.cut
       (listening g.E.Endpoint.role_of _ _ _ _ (g.E.Endpoint.seen c.args.end.now) (g.E.Endpoint.seen c.send_messages.new.end) c.in_ok-halt.halt c.in_ok-sent.sent (record { between = (g.E.Endpoint.seen c.run_and_print.new.end); ran = c.in_ok-halt.ensures.ran; sends = c.in_ok-sent.ensures.sent }) c.in_default.not-Refused c.in_default-halt.not-Finished c.if-not-sent.false script old now first sink k o going));
