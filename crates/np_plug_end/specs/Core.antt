@@ -1,10 +1,11 @@
 -- What the private calls of a plug-in end do.
-use Rattle.std.specs.Prelude.{◌≡◌, ◌+◌, List, ◌++◌, length, Option, Some, None}
+use Rattle.std.specs.Prelude.{◌≡◌, ◌+◌, ℕ, List, ◌++◌, length, drop, ◌⊎◌, Option, Some, None}
 use Rattle.np_model.specs.declared.script.Plugin.{Plugin}
 use Rattle.np_model.specs.declared.message.Message.{Message}
 use Rattle.np_model.specs.declared.refusal.Refusal.{Refusal}
 use Rattle.np_model.specs.Encoding.{encoding, encodings, KeepsFormat, IsTyped}
-use Rattle.np_model.specs.Decoding.{Partial, front}
+use Rattle.np_model.specs.Decoding.{Partial, Whole, front}
+use Rattle.np_wire.specs.Reading.{BeginsNew}
 use Rattle.np_model.specs.Side.{Micro}
 use Rattle.np_model.specs.Run.{Accepts, Refuses}
 use Rattle.np_model.specs.PluginPlan.{PluginControl, serve_plan, plugin_meet}
@@ -60,6 +61,17 @@ pub record IsRefused (old new : Core) (r : Refusal) : Type 0 where
   pub journal : new.journal.items ≡ old.journal.items
   pub plugin : new.plugin ≡ old.plugin
   pub refused : RefusedBy (plugin_meet old.plugin (control_of old)) old.feed.consumed r (front old.feed.consumed old.feed.left)
+
+-- a whole message stands at the front, and may come
+pub record IsServed (e : Core) : Type 0 where
+  pub message : Message
+  pub rest : List ℕ
+  pub there : front e.feed.consumed e.feed.left ≡ Whole message rest
+  pub plan : plugin_meet e.plugin (control_of e) message ≡ Accepts (serve_plan e.plugin (control_of e) message)
+
+-- Want of memory comes in place of no refusal: it comes where the message at the front is served, or begins as an NPP_New.
+abbrev pub WantsMemory : Core → Type 0
+WantsMemory e = BeginsNew (drop 4 e.feed.left) ⊎ IsServed e
 
 -- an end that awaits a message went on with it, or halted
 abbrev pub Listened : Core → Core → Option Halt → Type 0

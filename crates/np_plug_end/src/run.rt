@@ -1,6 +1,6 @@
 //! The run of an end, from message to message.
 
-ghost use Rattle.std.specs.Prelude.{◌≡◌, OnOk, IfOk, false};
+ghost use Rattle.std.specs.Prelude.{◌≡◌, OnOk, OnErr, IfOk, false};
 ghost use Rattle.np_model.specs.PluginRun.{IsListening};
 
 use crate::plug_core::Core;
@@ -14,7 +14,7 @@ impl Core {
     ghost use Rattle.np_model.specs.Alone.{plugin_role};
     ghost use Rattle.np_endpoint.specs.End.{Keeps, RestsAs, total_of};
     ghost use Rattle.np_plug_end.specs.PlugEnd.{seen};
-    ghost use Rattle.np_plug_end.specs.Core.{Listened};
+    ghost use Rattle.np_plug_end.specs.Core.{Listened, WantsMemory};
     ghost use Rattle.np_endpoint.specs.declared.halt.Halt.TheVariants.{Waiting};
 
     /// Serves what has come whole, until it waits or was shut down, or refuses a message.
@@ -42,6 +42,7 @@ impl Core {
     fn listen(&mut self) -> Result<Option<Halt>, NoMemory>
         requires listens { IsListening self.old.stage }
         ensures listened { IfOk result (λ halt. Listened self.old self.new halt) }
+        ensures memory { OnErr result (WantsMemory self.old) }
         ensures total { OnOk result (total_of (seen self.new Waiting false) ≡
             total_of (seen self.old Waiting false)) }
     {
