@@ -1,0 +1,4 @@
+pub mod Canonical
+pub mod Prefixes
+pub mod Clear
+pub mod Completion

@@ -1,0 +1,21 @@
+ghost use Rattle.np_grammar_laws.specs.Laws.{CanonicalLinesSayPages, CanonicalLinesSayPlugins, PrefixesAreInOrder, LinesCanBeCompleted};
+
+/// The canonical lines of a page say that page.
+pub fn canonical_lines_say_pages()
+    ensures law { CanonicalLinesSayPages }
+{}
+
+/// The canonical lines of a plug-in say that plug-in.
+pub fn canonical_lines_say_plugins()
+    ensures law { CanonicalLinesSayPlugins }
+{}
+
+/// Lines that begin lines in order are in order.
+pub fn prefixes_are_in_order()
+    ensures law { PrefixesAreInOrder }
+{}
+
+/// Lines that are in order can be gone on with, to a place where a script may end.
+pub fn lines_can_be_completed()
+    ensures law { LinesCanBeCompleted }
+{}
