@@ -6,7 +6,9 @@ use Rattle.np_model.specs.declared.refusal.Refusal.{Refusal}
 use Rattle.np_model.specs.Journal.{end_line, refused_line, rule_name}
 use Rattle.np_ending.specs.declared.ending.Ending.{Ending}
 use Rattle.np_ending.specs.declared.ending.Ending.TheVariants.{Done, Unsent, Ended, Failed, Refused}
+use Rattle.np_grammar.specs.declared.refusal.ScriptError.{ScriptError}
 use Rattle.np_ending.specs.Causes.{AddsPart}
+use Rattle.np_ending.specs.ScriptLines.{ScriptRefusal, OfError, Unbuilt, kind_name, script_error_line, unbuilt_line, refusal_line}
 use Rattle.np_ending.specs.Status.{ending_line}
 
 pub nothing_added : (taken : Option (List ℕ)) (bytes : List ℕ) → 0 < length bytes → AddsPart taken taken bytes
@@ -29,3 +31,13 @@ ending_line_is_some Unsent = end_line_is_some 6
 ending_line_is_some Ended = end_line_is_some 5
 ending_line_is_some Failed = end_line_is_some 6
 ending_line_is_some (Refused r) = refused_line_is_some r
+
+pub script_error_line_is_some : (e : ScriptError) → 0 < length (script_error_line e)
+script_error_line_is_some e = some_behind (codes "end 3 line " ++ decimal e.line ++ codes " " ++ kind_name e.kind) (10 ∷ []) (omega arith)
+
+pub unbuilt_line_is_some : 0 < length unbuilt_line
+unbuilt_line_is_some = some_behind (codes "end 3 unbuilt") (10 ∷ []) (omega arith)
+
+pub refusal_line_is_some : (r : ScriptRefusal) → 0 < length (refusal_line r)
+refusal_line_is_some (OfError e) = script_error_line_is_some e
+refusal_line_is_some Unbuilt = unbuilt_line_is_some

@@ -1,9 +1,10 @@
 -- How the steps of an end carry on what it stands for.
 use Rattle.std.proofs.Common.{◌≡◌, ℕ, suc, ◌+◌, ◌<◌, ◌≤◌, List, [], ◌∷◌, ◌++◌, length, refl, ap, sym, ◌∙◌, subst, arith, append_assoc, append-nil, length-append}
-use Rattle.np_model.specs.declared.message.Message.{Message}
+use Rattle.np_message.specs.Message.{Message}
 use Rattle.np_model.specs.declared.refusal.Refusal.{Refusal}
-use Rattle.np_model.specs.Encoding.{encoding, encodings, AreMessages, KeepsFormat, IsTyped}
-use Rattle.np_model.specs.Decoding.{front}
+use Rattle.np_message.specs.Encoding.{encoding, encodings}
+use Rattle.np_message.specs.Rules.{AreMessages, KeepsFormat, IsTyped}
+use Rattle.np_message.specs.Decoding.{front}
 use Rattle.np_model.specs.Side.{SideState, Micro, run_steps, examine, at_start}
 use Rattle.np_model.specs.Run.{Awaits, Accepts, turn, endpoint_run}
 use Rattle.np_model.specs.Alone.{Role, MoreMessages, IsRefusal}
@@ -83,7 +84,7 @@ stands-acted {S} {C} role_of script got sent printed old new steps acts m consum
 
 -- ---- a message
 
-messages-more : (messages : List Message) (m : Message) → AreMessages messages → KeepsFormat m → IsTyped m.body → AreMessages (messages ++ m ∷ [])
+messages-more : (messages : List Message) (m : Message) → AreMessages messages → KeepsFormat m → IsTyped m → AreMessages (messages ++ m ∷ [])
 messages-more [] m h keeps typed = ((keeps, typed), tt)
 messages-more (x ∷ messages) m h keeps typed = (h.0, messages-more messages m h.1 keeps typed)
 
@@ -110,7 +111,7 @@ pub record EndListens {S C : Type 0} (role_of : S → Role C) (old new : EndStat
   pub plan : AcceptsBy (role_of old.script) old.control m steps
   pub moves : EndMoves old new steps
   pub keeps : KeepsFormat m
-  pub typed : IsTyped m.body
+  pub typed : IsTyped m
   pub bytes : old.unread ≡ encoding m ++ new.unread
   pub total : new.consumed + length new.unread ≡ old.consumed + length old.unread
 

@@ -1,6 +1,6 @@
 -- What a turn of a side does that awaits a message.
 use Rattle.std.proofs.Common.{◌≡◌, List, [], ◌∷◌, ◌++◌, length, drop, Some, refl, ap, ◌∙◌}
-use Rattle.np_model.specs.declared.message.Message.{Message}
+use Rattle.np_message.specs.Message.{Message}
 use Rattle.np_model.specs.Side.{SideState, Micro, run_steps, examine}
 use Rattle.np_model.specs.Run.{Plans, Pace, Awaits, Accepts, first, meets, listens, turn_at, turn}
 

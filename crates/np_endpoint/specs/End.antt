@@ -1,7 +1,8 @@
 -- What an end stands for: its side alone, with the messages that came whole so far. (This project's own.)
 use Rattle.std.specs.Prelude.{◌≡◌, ℕ, ◌+◌, List, [], ◌++◌, length, Bool, false}
-use Rattle.np_model.specs.Encoding.{encodings, AreMessages}
-use Rattle.np_model.specs.Decoding.{Partial, front}
+use Rattle.np_message.specs.Encoding.{encodings}
+use Rattle.np_message.specs.Rules.{AreMessages}
+use Rattle.np_message.specs.Decoding.{Partial, front}
 use Rattle.np_model.specs.Side.{SideState, at_start}
 use Rattle.np_model.specs.Run.{Pace, Awaits, HasEnded, endpoint_run}
 use Rattle.np_model.specs.Alone.{Role, IsRefusal}

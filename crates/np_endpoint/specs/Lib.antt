@@ -1,6 +1,9 @@
 pub mod End
-pub use Rattle.np_model.specs.Encoding
-pub use Rattle.np_model.specs.Decoding
+pub mod Unknown
+pub use Rattle.np_message.specs.Encoding
+pub use Rattle.np_message.specs.Rules
+pub use Rattle.np_message.specs.Decoding
 pub use Rattle.np_model.specs.Side
 pub use Rattle.np_model.specs.Run
 pub use Rattle.np_model.specs.Alone
+pub use Rattle.np_model.specs.Releases

@@ -4,11 +4,13 @@
 mod endpoint;
 mod fault;
 mod halt;
+mod unknown;
 
 pub use endpoint::Endpoint;
 pub use fault::Fault;
 pub use halt::Halt;
 pub use np_model::{Refusal, Rule};
+pub use unknown::unknown_release;
 
 #[cfg(test)]
 mod tests;

@@ -1,6 +1,6 @@
 -- What was carried by the time that an exchange was cut short.
 use Rattle.std.proofs.Common.{◌≡◌, ℕ, List, [], ◌++◌, take, ◌⊎◌, inl, inr, Option, Some, None, refl, sym, ap, ◌∙◌, append_assoc, append-nil}
-use Rattle.np_model.specs.Encoding.{encodings}
+use Rattle.np_message.specs.Encoding.{encodings}
 use Rattle.np_model.specs.Side.{SideState}
 use Rattle.np_model.specs.Alone.{Role, ComesTo}
 use Rattle.np_ports.specs.Peer.{Known, took, gave}

@@ -2,8 +2,8 @@
 use Rattle.std.proofs.Common.{◌≡◌, ℕ, ◌+◌, List, [], ◌++◌, length, sym, ap, subst, ◌∙◌, arith, inl}
 use Rattle.std.proofs.lemmas.List.{length-append, append-nil}
 use Rattle.np_model.specs.declared.refusal.Refusal.{Refusal}
-use Rattle.np_model.specs.Encoding.{encodings}
-use Rattle.np_model.specs.Decoding.{Partial, front}
+use Rattle.np_message.specs.Encoding.{encodings}
+use Rattle.np_message.specs.Decoding.{Partial, front}
 use Rattle.np_model.specs.Run.{Pace, Awaits, HasEnded}
 use Rattle.np_model.specs.Alone.{Role, ComesTo, WaitsAt, EndsAt, RefusesAt}
 use Rattle.np_endpoint.specs.End.{EndState, StandsFor, HasLeft, HasPace, RestsAs, total_of}

@@ -2,7 +2,7 @@
 use Rattle.std.proofs.Common.{◌≡◌, ℕ, ◌-◌, List, [], ◌∷◌, ◌++◌, length, sym, ap, subst, ◌∙◌, append_assoc, arith}
 use Rattle.std.specs.List.{AllByRecursion}
 use Rattle.std.proofs.lemmas.List.{length-append, take_all, take-append-le, append-nil}
-use Rattle.np_model.specs.Encoding.{encodings}
+use Rattle.np_message.specs.Encoding.{encodings}
 use Rattle.np_model.specs.Side.{SideState}
 use Rattle.np_model.specs.Alone.{Role, WaitsAt}
 use Rattle.np_ports.specs.Peer.{Known, took}

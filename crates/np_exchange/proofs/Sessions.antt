@@ -1,7 +1,7 @@
 -- What a session comes to, whatever is printed after its exchange.
 use Rattle.std.proofs.Common.{◌≡◌, ℕ, List, [], ◌++◌, Option, None, refl, sym, ap, subst, ◌∙◌, append_assoc, append-nil, inl, inr, arith}
 use Rattle.np_model.specs.declared.refusal.Refusal.{Refusal}
-use Rattle.np_model.specs.Encoding.{encodings}
+use Rattle.np_message.specs.Encoding.{encodings}
 use Rattle.np_model.specs.Journal.{end_line}
 use Rattle.np_model.specs.Alone.{Role, RefusesAt}
 use Rattle.np_ports.specs.Peer.{Known}

@@ -1,7 +1,7 @@
 -- A side over a peer and a sink that tell their calls: what a whole session of it did. (This project's own.)
 use Rattle.std.specs.Prelude.{◌≡◌, ℕ, ◌-◌, ◌≤◌, List, ◌++◌, length, take, Option, Some}
 use Rattle.std.specs.List.{AllByRecursion}
-use Rattle.np_model.specs.Encoding.{encodings}
+use Rattle.np_message.specs.Encoding.{encodings}
 use Rattle.np_model.specs.Side.{SideState}
 use Rattle.np_model.specs.Journal.{end_line}
 use Rattle.np_model.specs.Alone.{Role, ComesTo, WaitsAt, EndsAt}

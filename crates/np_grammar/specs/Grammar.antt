@@ -1,13 +1,13 @@
 -- The grammar of page scripts and of plug-in scripts, and their canonical text. (This project's own.)
 use Rattle.std.specs.Prelude.{◌≡◌, ℕ, ◌≤◌, List, [], ◌∷◌, ◌++◌, length, map, true, not}
-use Rattle.std.specs.List.{list_all, filter, flat_map}
+use Rattle.std.specs.List.{list_all, filter, flat_map, AllByRecursion}
 use Rattle.np_values.specs.declared.name.Side.{Side}
 use Rattle.np_values.specs.declared.name.Side.TheVariants as sides
 use Rattle.np_grammar.specs.declared.page.Page.{Page}
 use Rattle.np_grammar.specs.declared.plugin.Plugin.{Plugin}
 use Rattle.np_grammar.specs.Words.{lines_of, is_line, words_of, is_skipped}
 use Rattle.np_grammar.specs.Forms.{Line, line_words, spaced}
-use Rattle.np_grammar.specs.Scripts.{IsPageOf, IsPluginOf, canonical_page_lines, canonical_plugin_lines}
+use Rattle.np_grammar.specs.Scripts.{HasContent, IsPageOf, IsPluginOf, canonical_page_lines, canonical_plugin_lines}
 use Rattle.np_grammar.specs.Order.{at_first, AreInOrder}
 
 -- the words of the lines that count
@@ -49,3 +49,14 @@ canonical_page page = text_of_lines (canonical_page_lines page)
 
 abbrev pub canonical_plugin : Plugin → List ℕ
 canonical_plugin plugin = text_of_lines (canonical_plugin_lines plugin)
+
+-- ---- scripts as values
+
+-- The page is one that a script may say, whatever its size: its canonical lines may follow each other so, and its resources carry what their lines say.
+pub record KeepsPageRules (page : Page) : Type 0 where
+  pub in_order : AreInOrder sides.Page at_first (canonical_page_lines page)
+  pub contents : AllByRecursion HasContent page.resources
+
+-- The plug-in is one that a script may say, whatever its size.
+pub record KeepsPluginRules (plugin : Plugin) : Type 0 where
+  pub in_order : AreInOrder sides.Plug at_first (canonical_plugin_lines plugin)

@@ -1,8 +1,10 @@
 //! Page scripts.
+ghost use Rattle.std.specs.Prelude.{◌≡◌, IfOk};
 
 use crate::class::Classes;
 use crate::command::Commands;
-use np_values::{Bytes, Seq, Text};
+use np_values::{Bytes, NoMemory, Seq, Text, TryCopy};
+use std::alloc::Global;
 
 /// What a stream of this URL carries: the piece, so many times. (This project's own.)
 #[derive(Drop)]
@@ -14,6 +16,30 @@ pub struct Resource {
     pub piece: Text,
     /// The piece, `times` times.
     pub content: Bytes,
+}
+
+/// Bytes of their own, equal to these.
+fn copied(alloc: Global, bytes: &[u8]) -> Result<Bytes, NoMemory>
+    ensures value { IfOk result (λ copy. copy ≡ bytes.now) }
+{
+    let mut copy = Bytes::new(alloc);
+    for byte in bytes {
+        copy.push(*byte)?;
+    }
+    Ok(copy)
+}
+
+impl TryCopy for Resource {
+    fn try_copy(&self, alloc: Global) -> Result<Resource, NoMemory> {
+        let content = copied(alloc, self.content.as_slice())?;
+        Ok(Resource {
+            url: self.url.try_copy(alloc)?,
+            mime: self.mime.try_copy(alloc)?,
+            times: self.times,
+            piece: self.piece.try_copy(alloc)?,
+            content,
+        })
+    }
 }
 
 /// The resources of a page, no two of one URL, in the order of their lines. Their contents have at most

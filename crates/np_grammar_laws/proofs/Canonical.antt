@@ -43,30 +43,36 @@ only_second {A} f xs ys all e g = flat_append f xs ys ∙ ap (λ (l : List A). l
 
 -- ---- pages
 
-of_classes : List ClassDef → List Declaration
+abbrev pub of_classes : List ClassDef → List Declaration
 of_classes classes = map (OfClass 0) classes
 
-of_resources : List Resource → List Declaration
+abbrev pub of_resources : List Resource → List Declaration
 of_resources resources = map OfResource resources
 
 page_declarations : (classes : List ClassDef) (resources : List Resource)
     → flat_map declaration_lines (of_classes classes ++ of_resources resources) ≡ flat_map (class_lines 0) classes ++ map resource_line resources
-unfolding of_classes of_resources
 page_declarations classes resources =
     flat_append declaration_lines (map (OfClass 0) classes) (map OfResource resources)
     ∙ ap (λ (l : List Line). l ++ flat_map declaration_lines (map OfResource resources)) (flat_over declaration_lines (OfClass 0) (class_lines 0) (λ class. refl) classes)
     ∙ ap (λ (l : List Line). flat_map (class_lines 0) classes ++ l) (flat_over declaration_lines OfResource (λ resource. resource_line resource ∷ []) (λ resource. refl) resources ∙ flat_single resource_line resources)
 
-pub page_is_said : (page : Page) → AllByRecursion HasContent page.resources → IsPageOf (canonical_page_lines page) page
-unfolding of_classes of_resources
-page_is_said page contents =
-    let commands : List Line = alone (codes "do") ∷ map command_line page.commands in
+-- the lines behind the declarations of a page
+abbrev pub command_lines : Page → List Line
+command_lines page = alone (codes "do") ∷ map command_line page.commands
+
+pub page_lines_are : (page : Page)
+    → canonical_page_lines page ≡ (codes "page", number page.major ∷ number page.minor ∷ []) ∷ (flat_map declaration_lines (of_classes page.classes ++ of_resources page.resources) ++ command_lines page)
+page_lines_are page =
     let head : Line = (codes "page", number page.major ∷ number page.minor ∷ []) in
+    ap (λ (l : List Line). head ∷ l)
+    (sym (append_assoc (flat_map (class_lines 0) page.classes) (map resource_line page.resources) (command_lines page))
+    ∙ ap (λ (l : List Line). l ++ command_lines page) (sym (page_declarations page.classes page.resources)))
+
+pub page_is_said : (page : Page) → AllByRecursion HasContent page.resources → IsPageOf (canonical_page_lines page) page
+page_is_said page contents =
     record {
       declarations = of_classes page.classes ++ of_resources page.resources;
-      lines_are = ap (λ (l : List Line). head ∷ l)
-          (sym (append_assoc (flat_map (class_lines 0) page.classes) (map resource_line page.resources) commands)
-          ∙ ap (λ (l : List Line). l ++ commands) (sym (page_declarations page.classes page.resources)));
+      lines_are = page_lines_are page;
       classes = only_first class_in (of_classes page.classes) (of_resources page.resources) page.classes
           (flat_over class_in (OfClass 0) (λ class. class ∷ []) (λ class. refl) page.classes ∙ flat_itself page.classes)
           (flat_none class_in OfResource (λ resource. refl) page.resources);
@@ -78,31 +84,35 @@ page_is_said page contents =
 
 -- ---- plug-ins
 
-of_handlers : List HandlerDef → List Declaration
+abbrev pub of_handlers : List HandlerDef → List Declaration
 of_handlers handlers = map OfHandler handlers
 
-of_tasks : List TaskDef → List Declaration
+abbrev pub of_tasks : List TaskDef → List Declaration
 of_tasks tasks = map OfTask tasks
 
 last_declarations : (handlers : List HandlerDef) (tasks : List TaskDef)
     → flat_map declaration_lines (of_handlers handlers ++ of_tasks tasks) ≡ flat_map handler_lines handlers ++ flat_map task_lines tasks
-unfolding of_handlers of_tasks
 last_declarations handlers tasks =
     flat_append declaration_lines (map OfHandler handlers) (map OfTask tasks)
     ∙ ap (λ (l : List Line). l ++ flat_map declaration_lines (map OfTask tasks)) (flat_over declaration_lines OfHandler handler_lines (λ handler. refl) handlers)
     ∙ ap (λ (l : List Line). flat_map handler_lines handlers ++ l) (flat_over declaration_lines OfTask task_lines (λ task. refl) tasks)
 
-pub plugin_is_said : (plugin : Plugin) → IsPluginOf (canonical_plugin_lines plugin) plugin
-unfolding of_classes of_handlers of_tasks
-plugin_is_said plugin =
+pub plugin_lines_are : (plugin : Plugin)
+    → canonical_plugin_lines plugin ≡ (codes "plugin", number plugin.major ∷ number plugin.minor ∷ []) ∷ flat_map declaration_lines (of_classes plugin.classes ++ (of_handlers plugin.handlers ++ of_tasks plugin.tasks))
+plugin_lines_are plugin =
     let last : List Declaration = of_handlers plugin.handlers ++ of_tasks plugin.tasks in
     let head : Line = (codes "plugin", number plugin.major ∷ number plugin.minor ∷ []) in
+    ap (λ (l : List Line). head ∷ l)
+    (sym (flat_append declaration_lines (of_classes plugin.classes) last
+    ∙ ap (λ (l : List Line). l ++ flat_map declaration_lines last) (flat_over declaration_lines (OfClass 0) (class_lines 0) (λ class. refl) plugin.classes)
+    ∙ ap (λ (l : List Line). flat_map (class_lines 0) plugin.classes ++ l) (last_declarations plugin.handlers plugin.tasks)))
+
+pub plugin_is_said : (plugin : Plugin) → IsPluginOf (canonical_plugin_lines plugin) plugin
+plugin_is_said plugin =
+    let last : List Declaration = of_handlers plugin.handlers ++ of_tasks plugin.tasks in
     record {
       declarations = of_classes plugin.classes ++ last;
-      lines_are = ap (λ (l : List Line). head ∷ l)
-          (sym (flat_append declaration_lines (of_classes plugin.classes) last
-          ∙ ap (λ (l : List Line). l ++ flat_map declaration_lines last) (flat_over declaration_lines (OfClass 0) (class_lines 0) (λ class. refl) plugin.classes)
-          ∙ ap (λ (l : List Line). flat_map (class_lines 0) plugin.classes ++ l) (last_declarations plugin.handlers plugin.tasks)));
+      lines_are = plugin_lines_are plugin;
       classes = only_first class_in (of_classes plugin.classes) last plugin.classes
           (flat_over class_in (OfClass 0) (λ class. class ∷ []) (λ class. refl) plugin.classes ∙ flat_itself plugin.classes)
           (only_first class_in (of_handlers plugin.handlers) (of_tasks plugin.tasks) [] (flat_none class_in OfHandler (λ handler. refl) plugin.handlers) (flat_none class_in OfTask (λ task. refl) plugin.tasks));

@@ -2,3 +2,10 @@ pub mod Canonical
 pub mod Prefixes
 pub mod Clear
 pub mod Completion
+pub mod Counting
+pub mod Alike
+pub mod Leading
+pub mod Below
+pub mod Blocks
+pub mod Declarations
+pub mod Gathering

@@ -19,6 +19,14 @@ CanonicalLinesSayPages = (page : Page) → AllByRecursion HasContent page.resour
 abbrev pub CanonicalLinesSayPlugins : Type 0
 CanonicalLinesSayPlugins = (plugin : Plugin) → IsPluginOf (canonical_plugin_lines plugin) plugin
 
+-- A page's canonical lines are in order, where lines are that say it.
+abbrev pub CanonicalPagesAreInOrder : Type 0
+CanonicalPagesAreInOrder = (lines : List Line) (page : Page) → AreInOrder sides.Page at_first lines → IsPageOf lines page → AreInOrder sides.Page at_first (canonical_page_lines page)
+
+-- A plug-in's canonical lines are in order, where lines are that say it.
+abbrev pub CanonicalPluginsAreInOrder : Type 0
+CanonicalPluginsAreInOrder = (lines : List Line) (plugin : Plugin) → AreInOrder sides.Plug at_first lines → IsPluginOf lines plugin → AreInOrder sides.Plug at_first (canonical_plugin_lines plugin)
+
 -- Lines that begin lines in order are in order.
 abbrev pub PrefixesAreInOrder : Type 0
 PrefixesAreInOrder = (side : Side) (front rest : List Line) → AreInOrder side at_first (front ++ rest) → AreInOrder side at_first front

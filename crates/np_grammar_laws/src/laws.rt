@@ -1,4 +1,4 @@
-ghost use Rattle.np_grammar_laws.specs.Laws.{CanonicalLinesSayPages, CanonicalLinesSayPlugins, PrefixesAreInOrder, LinesCanBeCompleted};
+ghost use Rattle.np_grammar_laws.specs.Laws.{CanonicalLinesSayPages, CanonicalLinesSayPlugins, CanonicalPagesAreInOrder, CanonicalPluginsAreInOrder, PrefixesAreInOrder, LinesCanBeCompleted};
 
 /// The canonical lines of a page say that page.
 pub fn canonical_lines_say_pages()
@@ -8,6 +8,16 @@ pub fn canonical_lines_say_pages()
 /// The canonical lines of a plug-in say that plug-in.
 pub fn canonical_lines_say_plugins()
     ensures law { CanonicalLinesSayPlugins }
+{}
+
+/// The canonical lines of a page are in order, where lines are that say it.
+pub fn canonical_pages_are_in_order()
+    ensures law { CanonicalPagesAreInOrder }
+{}
+
+/// The canonical lines of a plug-in are in order, where lines are that say it.
+pub fn canonical_plugins_are_in_order()
+    ensures law { CanonicalPluginsAreInOrder }
 {}
 
 /// Lines that begin lines in order are in order.

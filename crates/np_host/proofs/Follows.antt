@@ -3,22 +3,22 @@ use Rattle.std.proofs.Common.{◌≡◌, ℕ, ◌-◌, ◌≤◌, List, [], ◌�
 use Rattle.std.specs.List.{AllByRecursion}
 use Rattle.std.proofs.lemmas.List.{take-append-drop, append_cancel_left}
 use Rattle.np_model.specs.declared.script.Page.{Page}
-use Rattle.np_model.specs.Encoding.{encodings}
+use Rattle.np_message.specs.Encoding.{encodings}
 use Rattle.np_model.specs.declared.script.Plugin.{Plugin}
 use Rattle.np_model.specs.HostRun.{IsPluginText}
 use Rattle.np_ports.specs.Peer.{Known, started}
 use Rattle.np_ports.specs.Files.{Contents}
 use Rattle.np_model.specs.Alone.{page_role, WaitsAt, EndsAt, RefusesAt}
 use Rattle.np_model.proofs.Paces.{page-awaiting, page-ended}
-use Rattle.np_script.specs.Canonical.{PagesAreWellFormed}
+use Rattle.np_served.specs.Laws.{ServedPagesAreWellFormed}
 use Rattle.np_prefix.specs.Prefix.{WaitsLaw, EndsLaw, NeverRefusesLaw, FewBytesLaw}
 use Rattle.np_ending.specs.declared.ending.Ending.{Ending}
 use Rattle.np_ending.specs.declared.ending.Ending.TheVariants as endings
-use Rattle.np_host.specs.Words.{RunWords, run_words}
+use Rattle.np_host.specs.Words.{HostCommand, Run, Check, Show, host_command}
 use Rattle.np_exchange.specs.Session.{ReadsWell, Exchanged, Completed}
 use Rattle.np_host.specs.Outcomes.{PeerEnded, PipeFailed, PeerRefused, OutcomeOf}
 use Rattle.np_ending.specs.Status.{status_of, IsRunStatus}
-use Rattle.np_host.specs.Host.{OfWords, RunsPage, RunsWords}
+use Rattle.np_host.specs.Host.{OfRun, RunsPage, RunsWords}
 use Rattle.np_host.specs.Main.{ReadFollows, FollowsExchange, HostDone, HostLost, HostBroken, HostRefused, FollowsPage, FollowsWords}
 
 -- a prefix of a prefix
@@ -138,34 +138,36 @@ ends-refused page old first new sink endings.Failed e o = absurd (omega arith)
 ends-refused page old first new sink (endings.Refused r) e o = o
 
 -- what holds of each page that ran to this status holds of the run of the words
-pub from-page : PagesAreWellFormed → (outcome : Page → Plugin → Known → List ℕ → Known → List ℕ → List ℕ → Type 0) (words : List (List ℕ)) (files : Option Contents) (known0 known1 : Option Known) (taken0 taken1 : Option (List ℕ)) (status : ℕ) → IsRunStatus status
+pub from-page : ServedPagesAreWellFormed → (outcome : Page → Plugin → Known → List ℕ → Known → List ℕ → List ℕ → Type 0) (words : List (List ℕ)) (files : Option Contents) (known0 known1 : Option Known) (taken0 taken1 : Option (List ℕ)) (status : ℕ) → IsRunStatus status
     → ((page : Page) (plugin : Plugin) (old : Known) (first : List ℕ) (new : Known) (sink given : List ℕ) (ending : Ending) → length page.commands ≤ 1048576 → status ≡ status_of ending → OutcomeOf page ending old first new sink → new.given ≡ old.given ++ given → IsPluginText page plugin given → outcome page plugin old first new sink given)
     → RunsWords words files known0 known1 taken0 taken1 status → FollowsWords outcome words files known0 known1 taken0 taken1
-from-page formed outcome words files known0 known1 taken0 taken1 status ran each runs = at (run_words words) runs
+from-page formed outcome words files known0 known1 taken0 taken1 status ran each runs = at (host_command words) runs
   where
-    at : (o : Option RunWords) → OfWords o (λ r. RunsPage r.page r.program files known0 known1 taken0 taken1 status) (IsRunStatus status → ⊥) → OfWords o (λ r. FollowsPage outcome r.page r.program files known0 known1 taken0 taken1) ⊥
+    at : (o : Option HostCommand) → OfRun o (λ r. RunsPage r.page r.program files known0 known1 taken0 taken1 status) (IsRunStatus status → ⊥) → OfRun o (λ r. FollowsPage outcome r.page r.program files known0 known1 taken0 taken1) ⊥
     at None h = h ran
-    at (Some r) h = λ f old first told k o.
+    at (Some (Check side file)) h = tt
+    at (Some (Show file)) h = tt
+    at (Some (Run r)) h = λ f old first told k o.
         let x = h ran f old first told k o in
         let y = x.4 in
         (x.0, x.2, (y.0, y.1, y.2, y.3, λ plugin given e t. each x.0 plugin (started old r.program) first y.0 y.1 given x.1 (formed (f r.page) x.0 x.2).1 x.3 y.4 e t))
 
-pub follows-done : PagesAreWellFormed → WaitsLaw → EndsLaw → (words : List (List ℕ)) (files : Option Contents) (known0 known1 : Option Known) (taken0 taken1 : Option (List ℕ)) (status : ℕ) → status ≡ 0 → RunsWords words files known0 known1 taken0 taken1 status → FollowsWords HostDone words files known0 known1 taken0 taken1
+pub follows-done : ServedPagesAreWellFormed → WaitsLaw → EndsLaw → (words : List (List ℕ)) (files : Option Contents) (known0 known1 : Option Known) (taken0 taken1 : Option (List ℕ)) (status : ℕ) → status ≡ 0 → RunsWords words files known0 known1 taken0 taken1 status → FollowsWords HostDone words files known0 known1 taken0 taken1
 follows-done formed waits ends words files known0 known1 taken0 taken1 status is runs =
     from-page formed HostDone words files known0 known1 taken0 taken1 status (inl is)
     (λ page plugin old first new sink given ending short s o e t. done-follows waits ends page plugin old first new sink given (ends-done page old first new sink ending (sym is ∙ s) o) e t) runs
 
-pub follows-lost : PagesAreWellFormed → WaitsLaw → (words : List (List ℕ)) (files : Option Contents) (known0 known1 : Option Known) (taken0 taken1 : Option (List ℕ)) (status : ℕ) → status ≡ 5 → RunsWords words files known0 known1 taken0 taken1 status → FollowsWords HostLost words files known0 known1 taken0 taken1
+pub follows-lost : ServedPagesAreWellFormed → WaitsLaw → (words : List (List ℕ)) (files : Option Contents) (known0 known1 : Option Known) (taken0 taken1 : Option (List ℕ)) (status : ℕ) → status ≡ 5 → RunsWords words files known0 known1 taken0 taken1 status → FollowsWords HostLost words files known0 known1 taken0 taken1
 follows-lost formed waits words files known0 known1 taken0 taken1 status is runs =
     from-page formed HostLost words files known0 known1 taken0 taken1 status (inr (inl is))
     (λ page plugin old first new sink given ending short s o e t. lost-follows waits page plugin old first new sink given (ends-lost page old first new sink ending (sym is ∙ s) o) e t) runs
 
-pub follows-broken : PagesAreWellFormed → WaitsLaw → EndsLaw → (words : List (List ℕ)) (files : Option Contents) (known0 known1 : Option Known) (taken0 taken1 : Option (List ℕ)) (status : ℕ) → status ≡ 6 → RunsWords words files known0 known1 taken0 taken1 status → FollowsWords HostBroken words files known0 known1 taken0 taken1
+pub follows-broken : ServedPagesAreWellFormed → WaitsLaw → EndsLaw → (words : List (List ℕ)) (files : Option Contents) (known0 known1 : Option Known) (taken0 taken1 : Option (List ℕ)) (status : ℕ) → status ≡ 6 → RunsWords words files known0 known1 taken0 taken1 status → FollowsWords HostBroken words files known0 known1 taken0 taken1
 follows-broken formed waits ends words files known0 known1 taken0 taken1 status is runs =
     from-page formed HostBroken words files known0 known1 taken0 taken1 status (inr (inr (inl is)))
     (λ page plugin old first new sink given ending short s o e t. broken-follows waits ends page plugin old first new sink given (ends-broken page old first new sink ending (sym is ∙ s) o) e t) runs
 
-pub follows-refused : PagesAreWellFormed → NeverRefusesLaw → FewBytesLaw → (words : List (List ℕ)) (files : Option Contents) (known0 known1 : Option Known) (taken0 taken1 : Option (List ℕ)) (status : ℕ) → status ≡ 7 → RunsWords words files known0 known1 taken0 taken1 status → FollowsWords HostRefused words files known0 known1 taken0 taken1
+pub follows-refused : ServedPagesAreWellFormed → NeverRefusesLaw → FewBytesLaw → (words : List (List ℕ)) (files : Option Contents) (known0 known1 : Option Known) (taken0 taken1 : Option (List ℕ)) (status : ℕ) → status ≡ 7 → RunsWords words files known0 known1 taken0 taken1 status → FollowsWords HostRefused words files known0 known1 taken0 taken1
 follows-refused formed never few words files known0 known1 taken0 taken1 status is runs =
     from-page formed HostRefused words files known0 known1 taken0 taken1 status (inr (inr (inr is)))
     (λ page plugin old first new sink given ending short s o e t. never-refused never few page plugin old first new sink given short (ends-refused page old first new sink ending (sym is ∙ s) o) e t) runs

@@ -1,29 +1,29 @@
 -- From a page that was cut short alone to the one process.
 use Rattle.std.proofs.Common.{◌≡◌, ℕ, ◌≤◌, List, ◌++◌, length, ◌⊎◌, inl, inr, ⊎_elim, Option, Some, None, subst}
 use Rattle.np_model.specs.declared.script.Page.{Page}
-use Rattle.np_model.specs.Encoding.{encodings}
+use Rattle.np_message.specs.Encoding.{encodings}
 use Rattle.np_model.specs.declared.script.Plugin.{Plugin}
 use Rattle.np_model.specs.Journal.{end_line}
 use Rattle.np_model.specs.HostRun.{IsPluginText}
 use Rattle.np_ports.specs.Peer.{Known, started}
 use Rattle.np_ports.specs.Files.{Contents}
-use Rattle.np_script.specs.Canonical.{PagesAreWellFormed}
+use Rattle.np_served.specs.Laws.{ServedPagesAreWellFormed}
 use Rattle.np_model.specs.Alone.{page_role, ComesTo}
 use Rattle.np_prefix.specs.Prefix.{WaitsLaw, EndsLaw, BeginsLaw, ComesToRestLaw, NeverRefusesLaw, FewBytesLaw}
 use Rattle.np_ending.specs.declared.ending.Ending.{Ending}
 use Rattle.np_ending.specs.declared.ending.Ending.TheVariants as endings
-use Rattle.np_host.specs.Words.{RunWords, run_words}
+use Rattle.np_host.specs.Words.{HostCommand, Run, Check, Show, host_command}
 use Rattle.np_exchange.specs.Session.{Exchanged, Interrupted}
 use Rattle.np_host.specs.Outcomes.{OutcomeOf, CutShort}
 use Rattle.np_ending.specs.Causes.{AddsPart}
-use Rattle.np_host.specs.Host.{OfWords, RunCut, CutWords}
+use Rattle.np_host.specs.Host.{OfRun, RunCut, CutWords}
 use Rattle.np_host.specs.Main.{HostDone, HostLost, HostBroken, HostInterrupted, HostCut, ForEachPlugin}
 use Rattle.np_host.proofs.Follows.{exchange-follows, same-given, done-follows, lost-follows, broken-follows, never-refused}
 use Rattle.np_ending.proofs.Parts.{begins-then, messages-begin}
 
 -- the laws that are used
 pub record RunLaws : Type 0 where
-  pub formed : PagesAreWellFormed
+  pub formed : ServedPagesAreWellFormed
   pub waits : WaitsLaw
   pub ends : EndsLaw
   pub begins : BeginsLaw
@@ -70,8 +70,10 @@ page-follows laws pipe_failed peer_ended name program file_failed start_failed f
     (x.0, x.1, x.2, x.3, ⊎_elim (λ early. inl early) (λ c. inr (c.0, c.1, cut-follows laws pipe_failed peer_ended c.0 (started old program) first x.0 x.1 (laws.formed (f name) c.0 c.1).1 c.2)) x.4)
 
 pub follows-cut : RunLaws → (pipe_failed peer_ended : Type 0) (words : List (List ℕ)) (file_failed start_failed : Type 0) (files : Option Contents) (known0 known1 : Option Known) (taken0 taken1 : Option (List ℕ)) → CutWords (CutShort pipe_failed peer_ended) words file_failed start_failed files known0 known1 taken0 taken1 → CutWords (ForEachPlugin HostCut) words file_failed start_failed files known0 known1 taken0 taken1
-follows-cut laws pipe_failed peer_ended words file_failed start_failed files known0 known1 taken0 taken1 cut = at (run_words words) cut
+follows-cut laws pipe_failed peer_ended words file_failed start_failed files known0 known1 taken0 taken1 cut = at (host_command words) cut
   where
-    at : (o : Option RunWords) → OfWords o (λ r. RunCut (CutShort pipe_failed peer_ended) r.page r.program file_failed start_failed files known0 known1 taken0 taken1) ((known1 ≡ known0) × AddsPart taken0 taken1 (end_line 2)) → OfWords o (λ r. RunCut (ForEachPlugin HostCut) r.page r.program file_failed start_failed files known0 known1 taken0 taken1) ((known1 ≡ known0) × AddsPart taken0 taken1 (end_line 2))
+    at : (o : Option HostCommand) → OfRun o (λ r. RunCut (CutShort pipe_failed peer_ended) r.page r.program file_failed start_failed files known0 known1 taken0 taken1) ((known1 ≡ known0) × AddsPart taken0 taken1 (end_line 2)) → OfRun o (λ r. RunCut (ForEachPlugin HostCut) r.page r.program file_failed start_failed files known0 known1 taken0 taken1) ((known1 ≡ known0) × AddsPart taken0 taken1 (end_line 2))
     at None h = h
-    at (Some r) h = page-follows laws pipe_failed peer_ended r.page r.program file_failed start_failed files known0 known1 taken0 taken1 h
+    at (Some (Check side file)) h = tt
+    at (Some (Show file)) h = tt
+    at (Some (Run r)) h = page-follows laws pipe_failed peer_ended r.page r.program file_failed start_failed files known0 known1 taken0 taken1 h

@@ -7,3 +7,5 @@ pub mod UnrefusedRuns
 pub mod ClosingCuts
 pub mod PageCuts
 pub mod FollowsCuts
+pub mod Checks
+pub mod ShowCuts

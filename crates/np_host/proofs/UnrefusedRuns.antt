@@ -7,13 +7,13 @@ use Rattle.np_model.specs.Alone.{page_role, RefusesNothing}
 use Rattle.np_prefix.specs.Prefix.{RestsUnrefusedLaw}
 use Rattle.np_ending.specs.declared.ending.Ending.{Ending}
 use Rattle.np_ending.specs.declared.ending.Ending.TheVariants as endings
-use Rattle.np_host.specs.Words.{RunWords, run_words}
+use Rattle.np_host.specs.Words.{HostCommand, Run, Check, Show, host_command}
 use Rattle.np_ending.specs.Status.{status_of, IsRunStatus}
 use Rattle.np_model.specs.PagePlan.{PageControl}
 use Rattle.np_exchange.specs.Closing.{IsUnrefusedStatus}
 use Rattle.np_exchange.proofs.Sessions.{never-seven, unrefused-run}
 use Rattle.np_host.specs.Outcomes.{PipeFailed, OutcomeOf}
-use Rattle.np_host.specs.Host.{OfWords, RunsPage, RunsWords, RunsUnrefused, UnrefusedWords}
+use Rattle.np_host.specs.Host.{OfRun, RunsPage, RunsWords, RunsUnrefused, UnrefusedWords}
 
 -- what the peer gave, of which nothing is refused
 record Unrefused (page : Page) (old new : Known) (status : ℕ) : Type 0 where
@@ -40,8 +40,10 @@ page-unrefused law name program files known0 known1 taken0 taken1 status is runs
     (x.0, y.0, u.got, x.2, y.2, u.given, u.nothing, λ e. u.below_limit (sym x.3 ∙ e))
 
 pub words-unrefused : RestsUnrefusedLaw PageControl → (words : List (List ℕ)) (files : Option Contents) (known0 known1 : Option Known) (taken0 taken1 : Option (List ℕ)) (status : ℕ) → IsUnrefusedStatus status → RunsWords words files known0 known1 taken0 taken1 status → UnrefusedWords words files known0 known1 taken0 status
-words-unrefused law words files known0 known1 taken0 taken1 status is runs = at (run_words words) runs
+words-unrefused law words files known0 known1 taken0 taken1 status is runs = at (host_command words) runs
   where
-    at : (o : Option RunWords) → OfWords o (λ r. RunsPage r.page r.program files known0 known1 taken0 taken1 status) (IsRunStatus status → ⊥) → OfWords o (λ r. RunsUnrefused r.page files known0 known1 taken0 status) ⊥
+    at : (o : Option HostCommand) → OfRun o (λ r. RunsPage r.page r.program files known0 known1 taken0 taken1 status) (IsRunStatus status → ⊥) → OfRun o (λ r. RunsUnrefused r.page files known0 known1 taken0 status) ⊥
     at None h = h (unrefused-run status is)
-    at (Some r) h = page-unrefused law r.page r.program files known0 known1 taken0 taken1 status is h
+    at (Some (Check side file)) h = tt
+    at (Some (Show file)) h = tt
+    at (Some (Run r)) h = page-unrefused law r.page r.program files known0 known1 taken0 taken1 status is h

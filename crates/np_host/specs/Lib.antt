@@ -2,6 +2,8 @@ pub mod Words
 pub mod Outcomes
 pub mod Losing
 pub mod Host
+pub mod Check
+pub mod Shows
 pub mod Main
 pub use Rattle.np_model.specs.Alone
 pub use Rattle.np_exchange.specs.Session
@@ -9,3 +11,6 @@ pub use Rattle.np_exchange.specs.Closing
 pub use Rattle.np_ending.specs.Causes
 pub use Rattle.np_ending.specs.PeerCauses
 pub use Rattle.np_ending.specs.Status
+pub use Rattle.np_ending.specs.ScriptLines
+pub use Rattle.np_served.specs.Served
+pub use Rattle.np_show.specs.Show

@@ -3,8 +3,7 @@ use Rattle.std.specs.Prelude.{◌≡◌, ℕ, ◌-◌, ◌<◌, List, ◌++◌, 
 use Rattle.std.specs.List.{AllByRecursion}
 use Rattle.np_model.specs.declared.script.Page.{Page}
 use Rattle.np_model.specs.declared.page.Stage.TheVariants.{Ended}
-use Rattle.np_model.specs.Script.{page_of}
-use Rattle.np_model.specs.Encoding.{encodings}
+use Rattle.np_message.specs.Encoding.{encodings}
 use Rattle.np_model.specs.Side.{SideState}
 use Rattle.np_model.specs.PagePlan.{PageControl}
 use Rattle.np_model.specs.declared.script.Plugin.{Plugin}
@@ -13,8 +12,9 @@ use Rattle.np_model.specs.Journal.{end_line}
 use Rattle.np_ports.specs.Peer.{Known, started}
 use Rattle.np_ports.specs.Files.{Contents}
 use Rattle.np_prefix.specs.Prefix.{IsWhole}
-use Rattle.np_host.specs.Words.{run_words}
-use Rattle.np_host.specs.Host.{OfWords}
+use Rattle.np_served.specs.Served.{SaysPage}
+use Rattle.np_host.specs.Words.{host_command}
+use Rattle.np_host.specs.Host.{OfRun}
 use Rattle.np_ending.specs.Causes.{BeginsWith}
 
 -- Before this read the peer had taken all that the page sends in the run that only the whole messages given by then reach.
@@ -100,8 +100,9 @@ ForEachPlugin outcome page old first new sink = (plugin : Plugin) (given : List 
 abbrev pub FollowsPage : (Page → Plugin → Known → List ℕ → Known → List ℕ → List ℕ → Type 0) → List ℕ → List (List ℕ) → Option Contents → Option Known → Option Known → Option (List ℕ) → Option (List ℕ) → Type 0
 FollowsPage outcome name program files known0 known1 taken0 taken1 =
     (f : Contents) (old : Known) (first : List ℕ) → files ≡ Some f → known0 ≡ Some old → taken0 ≡ Some first →
-    (page : Page) × (page_of (f name) ≡ Some page)
+    (page : Page) × SaysPage (f name) page
     × ((new : Known) × (sink : List ℕ) × (known1 ≡ Some new) × (taken1 ≡ Some sink) × ForEachPlugin outcome page (started old program) first new sink)
 
+-- Of the words: where they tell to run, this holds of the page that they name, over the program that they name; where they tell nothing, never.
 abbrev pub FollowsWords : (Page → Plugin → Known → List ℕ → Known → List ℕ → List ℕ → Type 0) → List (List ℕ) → Option Contents → Option Known → Option Known → Option (List ℕ) → Option (List ℕ) → Type 0
-FollowsWords outcome words files known0 known1 taken0 taken1 = OfWords (run_words words) (λ r. FollowsPage outcome r.page r.program files known0 known1 taken0 taken1) ⊥
+FollowsWords outcome words files known0 known1 taken0 taken1 = OfRun (host_command words) (λ r. FollowsPage outcome r.page r.program files known0 known1 taken0 taken1) ⊥

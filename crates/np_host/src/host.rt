@@ -1,24 +1,28 @@
 //! The entry point of the host, over any environment.
 
 ghost use Rattle.std.specs.Prelude.{◌≡◌, ◌<◌, ◌⊎◌, ◌↔◌, ◌≢◌, length, map, string_bytes, IfOk, OnOk, OnErr, Some, None, true};
-ghost use Rattle.np_model.specs.Script.{page_of};
 ghost use Rattle.np_ports.specs.Causes.{Rose};
-ghost use Rattle.np_host.specs.Words.{run_words as run_of_words, texts};
+ghost use Rattle.np_host.specs.Words.{host_command as command_in, texts};
 ghost use Rattle.np_exchange.specs.Closing.{IsUnrefusedStatus};
 ghost use Rattle.np_host.specs.Outcomes.{CutShort};
-ghost use Rattle.np_host.specs.Host.{RunsPage, RunCut, CutWords, StopsEarly, NotStarted, IsNoPage, OnlyNoPage, KeepsFiles, NotesPageOnly, RunsWords, UnrefusedWords, NotStartedWords, IsNoScript, OnlyNoScript, NotesScriptOnly, IsCutShort, IsEndStatus};
+ghost use Rattle.np_host.specs.Host.{RunsPage, RunCut, CutWords, StopsEarly, NotStarted, RefusesPage, OnlyRefused, RunsWords, UnrefusedWords, NotStartedWords, RefusesScript, OnlyRefusedScript, OfCheck, OfShow, IsNoShow, NotesScriptOnly, IsCutShort, IsEndStatus};
+ghost use Rattle.np_show.specs.Show.{KeepsFiles, NotesReadOnly};
+ghost use Rattle.np_host.specs.Shows.{ShowsFile, ShowsBeginning, ShowsCut, ShowsOnly};
+ghost use Rattle.np_host.specs.Check.{ChecksWell, ChecksBadly, ChecksOnly, ChecksPart};
 ghost use Rattle.np_ending.specs.Causes.{SinkCause};
 ghost use Rattle.np_host.specs.Main.{FollowsWords, ForEachPlugin, HostDone, HostLost, HostBroken, HostRefused, HostCut};
 
+use crate::check::check;
 use crate::session::session;
-use crate::words::run_words;
-use np_ending::{Stop, finish};
+use crate::words::{CommandWords, host_command};
+use np_ending::{Stop, finish, finish_script, finish_unbuilt};
 use np_ports::{Files, Peer, PortError, Sink};
 use np_prefix::{
     begins_law, comes_to_rest_law, ends_law, few_bytes_law, never_refuses_law, rests_unrefused_law,
     waits_law,
 };
-use np_script::{ParseError, pages_are_well_formed, parse_page};
+use np_served::{Unserved, serve_page, served_pages_are_well_formed};
+use np_show::show;
 use np_transfer::read_script;
 use std::alloc::Global;
 
@@ -36,8 +40,8 @@ fn run<P: Peer, F: Files, O: Sink>(
     ensures cut { OnErr result (RunCut (CutShort (Rose (P.pipe_faults peer.old) (P.pipe_faults peer.new)) (P.has_ended peer.new ≡ true)) name.now (texts program.now) (Rose (F.faults files.old) (F.faults files.new)) (Rose (P.start_faults peer.old) (P.start_faults peer.new)) (F.contents files.old) (P.known peer.old) (P.known peer.new) (O.taken out.old) (O.taken out.new)) }
     ensures early { IfOk result (λ status. StopsEarly (P.known peer.old) (P.known peer.new) (O.taken out.old) (O.taken out.new) status) }
     ensures not_started { IfOk result (λ status. NotStarted (texts program.now) (P.known peer.old) (P.known peer.new) (O.taken out.old) (O.taken out.new) status) }
-    ensures script { IfOk result (λ status. status ≡ 3 → IsNoPage name.now (F.contents files.old)) }
-    ensures script_only { IfOk result (λ status. OnlyNoPage name.now (F.contents files.old) status) }
+    ensures script { IfOk result (λ status. status ≡ 3 → RefusesPage name.now (F.contents files.old) (O.taken out.old) (O.taken out.new)) }
+    ensures script_only { IfOk result (λ status. OnlyRefused name.now (F.contents files.old) status) }
     ensures listed { IfOk result (λ status. IsEndStatus status) }
     ensures usage { IfOk result (λ status. status ≢ 2) }
     ensures output { IfOk result (λ status. status ≢ 10) }
@@ -47,17 +51,18 @@ fn run<P: Peer, F: Files, O: Sink>(
     ensures ended { IfOk result (λ status. status ≡ 5 → P.has_ended peer.new ≡ true) }
     ensures sink { SinkCause (O.faults out.old) (O.faults out.new) result }
     ensures files { KeepsFiles (F.contents files.old) (F.contents files.new) }
-    ensures failed_calls { NotesPageOnly name.now (F.failed_calls files.old) (F.failed_calls files.new) }
+    ensures failed_calls { NotesReadOnly name.now (F.failed_calls files.old) (F.failed_calls files.new) }
 {
     let bytes = match read_script(alloc, files, name) {
         Ok(bytes) => bytes,
         Err(PortError::Failed) => return finish(alloc, out, 4),
         Err(PortError::NoMemory) => return Err(Stop::NoMemory),
     };
-    let page = match parse_page(alloc, &bytes) {
+    let page = match serve_page(alloc, &bytes) {
         Ok(page) => page,
-        Err(ParseError::Script) => return finish(alloc, out, 3),
-        Err(ParseError::NoMemory) => return Err(Stop::NoMemory),
+        Err(Unserved::Script(error)) => return finish_script(alloc, out, error),
+        Err(Unserved::Unbuilt) => return finish_unbuilt(out),
+        Err(Unserved::NoMemory) => return Err(Stop::NoMemory),
     };
     match peer.start(program) {
         Ok(()) => {}
@@ -68,6 +73,7 @@ fn run<P: Peer, F: Files, O: Sink>(
     Ok(status)
 }
 
+/// Does what the words tell to do.
 fn serve<P: Peer, F: Files, O: Sink>(
     alloc: Global,
     words: &[String],
@@ -77,23 +83,41 @@ fn serve<P: Peer, F: Files, O: Sink>(
 ) -> Result<u8, Stop>
     ensures runs { IfOk result (λ status. RunsWords (texts words.now) (F.contents files.old) (P.known peer.old) (P.known peer.new) (O.taken out.old) (O.taken out.new) status) }
     ensures cut { OnErr result (CutWords (CutShort (Rose (P.pipe_faults peer.old) (P.pipe_faults peer.new)) (P.has_ended peer.new ≡ true)) (texts words.now) (Rose (F.faults files.old) (F.faults files.new)) (Rose (P.start_faults peer.old) (P.start_faults peer.new)) (F.contents files.old) (P.known peer.old) (P.known peer.new) (O.taken out.old) (O.taken out.new)) }
-    ensures early { IfOk result (λ status. StopsEarly (P.known peer.old) (P.known peer.new) (O.taken out.old) (O.taken out.new) status) }
+    ensures early { IfOk result (λ status. IsNoShow (command_in (texts words.now)) → StopsEarly (P.known peer.old) (P.known peer.new) (O.taken out.old) (O.taken out.new) status) }
     ensures not_started { IfOk result (λ status. NotStartedWords (texts words.now) (P.known peer.old) (P.known peer.new) (O.taken out.old) (O.taken out.new) status) }
-    ensures script { IfOk result (λ status. status ≡ 3 → IsNoScript (texts words.now) (F.contents files.old)) }
-    ensures script_only { IfOk result (λ status. OnlyNoScript (texts words.now) (F.contents files.old) status) }
+    ensures script { IfOk result (λ status. status ≡ 3 → RefusesScript (texts words.now) (F.contents files.old) (O.taken out.old) (O.taken out.new)) }
+    ensures script_only { IfOk result (λ status. OnlyRefusedScript (texts words.now) (F.contents files.old) status) }
+    ensures check_done { IfOk result (λ status. status ≡ 0 → ChecksWell (texts words.now) (F.contents files.old) (O.taken out.old) (O.taken out.new)) }
+    ensures check_refused { IfOk result (λ status. status ≡ 3 → ChecksBadly (texts words.now) (F.contents files.old) (O.taken out.old) (O.taken out.new)) }
+    ensures check_only { IfOk result (λ status. ChecksOnly (texts words.now) (F.contents files.old) status) }
+    ensures check_cut { OnErr result (ChecksPart (texts words.now) (Rose (F.faults files.old) (F.faults files.new)) (F.contents files.old) (O.taken out.old) (O.taken out.new)) }
+    ensures check_peer { OfCheck (command_in (texts words.now)) (λ side name. peer.new ≡ peer.old) }
+    ensures show_all { IfOk result (λ status. (status ≡ 0) ⊎ (status ≡ 7) → ShowsFile (texts words.now) (F.contents files.old) (O.taken out.old) (O.taken out.new) status) }
+    ensures show_part { IfOk result (λ status. status ≡ 4 → ShowsBeginning (texts words.now) (F.contents files.old) (O.taken out.old) (O.taken out.new)) }
+    ensures show_only { IfOk result (λ status. ShowsOnly (texts words.now) status) }
+    ensures show_cut { OnErr result (ShowsCut (texts words.now) (Rose (F.faults files.old) (F.faults files.new)) (F.contents files.old) (O.taken out.old) (O.taken out.new)) }
+    ensures show_peer { OfShow (command_in (texts words.now)) (λ name. peer.new ≡ peer.old) }
     ensures output { IfOk result (λ status. status ≢ 10) }
     ensures listed { IfOk result (λ status. IsEndStatus status) }
-    ensures usage { IfOk result (λ status. (status ≡ 2) ↔ (run_of_words (texts words.now) ≡ None)) }
+    ensures usage { IfOk result (λ status. (status ≡ 2) ↔ (command_in (texts words.now) ≡ None)) }
     ensures file { IfOk result (λ status. status ≡ 4 → Rose (F.faults files.old) (F.faults files.new)) }
     ensures start { IfOk result (λ status. status ≡ 11 → Rose (P.start_faults peer.old) (P.start_faults peer.new)) }
     ensures pipe { IfOk result (λ status. status ≡ 6 → Rose (P.pipe_faults peer.old) (P.pipe_faults peer.new)) }
     ensures ended { IfOk result (λ status. status ≡ 5 → P.has_ended peer.new ≡ true) }
     ensures sink { SinkCause (O.faults out.old) (O.faults out.new) result }
     ensures files { KeepsFiles (F.contents files.old) (F.contents files.new) }
-    ensures failed_calls { NotesScriptOnly (texts words.now) (F.failed_calls files.old) (F.failed_calls files.new) }
+    ensures failed_calls { NotesScriptOnly (command_in (texts words.now)) (F.failed_calls files.old) (F.failed_calls files.new) }
 {
-    let plain = match run_words(alloc, words)? {
-        Some(plain) => plain,
+    let plain = match host_command(alloc, words)? {
+        Some(CommandWords::Run(plain)) => plain,
+        Some(CommandWords::Check(side, file)) => {
+            let status = check(alloc, side, file.as_str(), files, out)?;
+            return Ok(status);
+        }
+        Some(CommandWords::Show(file)) => {
+            let status = show(alloc, file.as_str(), files, out)?;
+            return Ok(status);
+        }
         None => return finish(alloc, out, 2),
     };
     let status = run(alloc, plain[0].as_str(), &plain[1..], peer, files, out)?;
@@ -102,8 +126,10 @@ fn serve<P: Peer, F: Files, O: Sink>(
 
 /// Runs the host on the words of its command line, and answers its status.
 ///
-/// `words` are those behind the program's name. Only `run PAGE PROGRAM ARG*` is served: the page of the
-/// file PAGE runs over PROGRAM, which is started with the ARGs. This project's own.
+/// `words` are those behind the program's name. By `run PAGE PROGRAM ARG*` the page of the file PAGE runs
+/// over PROGRAM, which is started with the ARGs; by `check page FILE` and `check plugin FILE` the canonical text
+/// of the script FILE is printed; by `show FILE` the messages of the wire bytes in FILE are listed. This project's
+/// own.
 pub fn host_main<P: Peer, F: Files, O: Sink>(
     alloc: Global,
     words: &[String],
@@ -129,16 +155,32 @@ pub fn host_main<P: Peer, F: Files, O: Sink>(
     ensures follows_cut { IsCutShort result → CutWords (ForEachPlugin HostCut) (texts words.now) (Rose (F.faults files.old) (F.faults files.new)) (Rose (P.start_faults peer.old) (P.start_faults peer.new)) (F.contents files.old) (P.known peer.old) (P.known peer.new) (O.taken out.old) (O.taken out.new) }
     ensures never_refused { result ≡ 7 → FollowsWords HostRefused (texts words.now) (F.contents files.old) (P.known peer.old) (P.known peer.new) (O.taken out.old) (O.taken out.new) }
 
-    // What comes before a page runs.
-    ensures early { StopsEarly (P.known peer.old) (P.known peer.new) (O.taken out.old) (O.taken out.new) result }
+    // What comes before a page runs, and of a check.
+    ensures early { IsNoShow (command_in (texts words.now)) → StopsEarly (P.known peer.old) (P.known peer.new) (O.taken out.old) (O.taken out.new) result }
     ensures not_started { NotStartedWords (texts words.now) (P.known peer.old) (P.known peer.new) (O.taken out.old) (O.taken out.new) result }
+
+    // What `check` does: the canonical text alone at 0, the line of the first error alone at 3. Each script gives
+    // 0 and what is none 3, unless it can't be read; no other status comes, and the peer stays as it was.
+    ensures check_done { result ≡ 0 → ChecksWell (texts words.now) (F.contents files.old) (O.taken out.old) (O.taken out.new) }
+    ensures check_refused { result ≡ 3 → ChecksBadly (texts words.now) (F.contents files.old) (O.taken out.old) (O.taken out.new) }
+    ensures check_only { ChecksOnly (texts words.now) (F.contents files.old) result }
+    ensures check_cut { IsCutShort result → ChecksPart (texts words.now) (Rose (F.faults files.old) (F.faults files.new)) (F.contents files.old) (O.taken out.old) (O.taken out.new) }
+    ensures check_peer { OfCheck (command_in (texts words.now)) (λ side name. peer.new ≡ peer.old) }
+
+    // What `show` does: at 0 and 7 all that there is to show of the file, of which this is the status; at 4 the
+    // messages in the file's first bytes. No other status comes, and the peer stays as it was.
+    ensures show_all { (result ≡ 0) ⊎ (result ≡ 7) → ShowsFile (texts words.now) (F.contents files.old) (O.taken out.old) (O.taken out.new) result }
+    ensures show_part { result ≡ 4 → ShowsBeginning (texts words.now) (F.contents files.old) (O.taken out.old) (O.taken out.new) }
+    ensures show_only { ShowsOnly (texts words.now) result }
+    ensures show_cut { IsCutShort result → ShowsCut (texts words.now) (Rose (F.faults files.old) (F.faults files.new)) (F.contents files.old) (O.taken out.old) (O.taken out.new) }
+    ensures show_peer { OfShow (command_in (texts words.now)) (λ name. peer.new ≡ peer.old) }
 
     // The statuses, and the cause of each.
     ensures listed { IsEndStatus result ⊎ IsCutShort result }
-    ensures usage { result ≡ 2 → run_of_words (texts words.now) ≡ None }
-    ensures usage_only { run_of_words (texts words.now) ≡ None → (result ≡ 2) ⊎ IsCutShort result }
-    ensures script { result ≡ 3 → IsNoScript (texts words.now) (F.contents files.old) }
-    ensures script_only { IsCutShort result ⊎ OnlyNoScript (texts words.now) (F.contents files.old) result }
+    ensures usage { result ≡ 2 → command_in (texts words.now) ≡ None }
+    ensures usage_only { command_in (texts words.now) ≡ None → (result ≡ 2) ⊎ IsCutShort result }
+    ensures script { result ≡ 3 → RefusesScript (texts words.now) (F.contents files.old) (O.taken out.old) (O.taken out.new) }
+    ensures script_only { IsCutShort result ⊎ OnlyRefusedScript (texts words.now) (F.contents files.old) result }
     ensures file { result ≡ 4 → Rose (F.faults files.old) (F.faults files.new) }
     ensures start { result ≡ 11 → Rose (P.start_faults peer.old) (P.start_faults peer.new) }
     ensures ended { result ≡ 5 → P.has_ended peer.new ≡ true }
@@ -147,7 +189,7 @@ pub fn host_main<P: Peer, F: Files, O: Sink>(
 
     // What stays, at every status.
     ensures files { KeepsFiles (F.contents files.old) (F.contents files.new) }
-    ensures failed_calls { NotesScriptOnly (texts words.now) (F.failed_calls files.old) (F.failed_calls files.new) }
+    ensures failed_calls { NotesScriptOnly (command_in (texts words.now)) (F.failed_calls files.old) (F.failed_calls files.new) }
 {
     waits_law();
     ends_law();
@@ -155,7 +197,7 @@ pub fn host_main<P: Peer, F: Files, O: Sink>(
     comes_to_rest_law();
     never_refuses_law();
     few_bytes_law();
-    pages_are_well_formed();
+    served_pages_are_well_formed();
     rests_unrefused_law();
     match serve(alloc, words, peer, files, out) {
         Ok(status) => status,

@@ -1,6 +1,7 @@
-//! The host program: runs a page over a plug-in program that it starts.
+//! The host program: runs a page over a plug-in program that it starts, or checks a script.
 #![tactic(auto)]
 
+mod check;
 mod host;
 mod session;
 mod words;

@@ -1,13 +1,11 @@
 -- How the private calls of an end carry on what it stands for.
-use Rattle.std.proofs.Common.{◌≡◌, ℕ, ◌+◌, ◌<◌, ◌≤◌, List, [], length, false, Some, refl, ap, sym, ◌∙◌, subst, arith, length-append, ◌⊎◌, inl, inr}
-use Rattle.np_model.specs.declared.message.Message.{Message}
+use Rattle.std.proofs.Common.{◌≡◌, ◌+◌, ◌<◌, ◌≤◌, List, length, false, Some, refl, ap, sym, ◌∙◌, subst, arith, ◌⊎◌, inl, inr}
+use Rattle.np_message.specs.Message.{Message}
 use Rattle.np_model.specs.declared.script.Page.{Page}
 use Rattle.np_model.specs.declared.page.Stage.{Stage}
 use Rattle.np_model.specs.declared.page.Stage.TheVariants.{Begin, Ready, Awaiting, Unanswered, Ended}
 use Rattle.np_model.specs.declared.page.Outstanding.{Outstanding}
-use Rattle.np_model.specs.declared.refusal.Refusal.{Refusal}
-use Rattle.np_model.specs.Encoding.{encoding}
-use Rattle.np_model.specs.Decoding.{front}
+use Rattle.np_message.specs.Decoding.{front}
 use Rattle.np_model.specs.Side.{Micro}
 use Rattle.np_model.specs.Run.{Awaits, HasEnded, Meeting, Accepts, Refuses}
 use Rattle.np_model.specs.PagePlan.{PageControl, go_plan, meet_plan, pace_at}

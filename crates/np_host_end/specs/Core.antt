@@ -1,15 +1,15 @@
 -- What the private calls of a host end do.
-use Rattle.std.specs.Prelude.{◌≡◌, ◌+◌, List, ◌++◌, length, drop, Bool, true, false, Option, Some, None}
+use Rattle.std.specs.Prelude.{◌≡◌, ◌+◌, List, ◌++◌, length, drop, Option, Some, None}
 use Rattle.np_model.specs.declared.page.Stage.{Stage}
 use Rattle.np_model.specs.declared.page.Stage.TheVariants.{Begin, Ready, Awaiting, Unanswered, Ended}
-use Rattle.np_model.specs.declared.page.Outstanding.{Outstanding}
-use Rattle.np_model.specs.declared.message.Message.{Message}
+use Rattle.np_message.specs.Message.{Message}
 use Rattle.np_model.specs.declared.refusal.Refusal.{Refusal}
-use Rattle.np_model.specs.Encoding.{encoding, encodings, KeepsFormat, IsTyped}
-use Rattle.np_model.specs.Decoding.{Partial, front}
+use Rattle.np_message.specs.Encoding.{encoding, encodings}
+use Rattle.np_message.specs.Rules.{KeepsFormat, IsTyped}
+use Rattle.np_message.specs.Decoding.{Partial, front}
 use Rattle.np_model.specs.Side.{Micro}
 use Rattle.np_model.specs.Run.{Meeting, Accepts, Refuses}
-use Rattle.np_model.specs.PagePlan.{PageControl, go_plan, meet_plan, reply_plan, unmatched}
+use Rattle.np_model.specs.PagePlan.{PageControl, go_plan, meet_plan}
 use Rattle.np_model.specs.Steps.{control_after, sent_by, printed_by}
 use Rattle.np_model.specs.Refused.{RefusedBy}
 use Rattle.np_endpoint.specs.declared.fault.Fault.{Fault}
@@ -48,11 +48,6 @@ abbrev pub Meets : Core → Core → Message → Option Fault → Type 0
 Meets old new m None = MovesAs old new (meet_plan (control_of old) m)
 Meets old new m (Some fault) = (meet_plan (control_of old) m ≡ Refuses fault.rule fault.first fault.second) × (new ≡ old)
 
--- a reply at the call's depth was met, or nothing was done where it is none to that call
-abbrev pub Replies : Core → Core → Outstanding → Message → Bool → Type 0
-Replies old new call m true = MovesAs old new (reply_plan (control_of old) m call m.body)
-Replies old new call m false = (reply_plan (control_of old) m call m.body ≡ unmatched m) × (new ≡ old)
-
 -- all but the control stayed
 pub record SameBut (old new : Core) : Type 0 where
   pub page : new.page ≡ old.page
@@ -73,7 +68,7 @@ pub record Listens (old new : Core) : Type 0 where
   pub message : Message
   pub bytes : old.feed.left ≡ encoding message ++ new.feed.left
   pub keeps : KeepsFormat message
-  pub typed : IsTyped message.body
+  pub typed : IsTyped message
   pub consumed : new.feed.consumed + length new.feed.left ≡ old.feed.consumed + length old.feed.left
   pub meets : MovesAs old new (meet_plan (control_of old) message)
 

@@ -1,7 +1,7 @@
 -- What a caller sees of a host end, and what it stands for once its plug-in is lost.
 use Rattle.std.specs.Prelude.{◌≡◌, ℕ, List, [], ◌++◌, Bool}
 use Rattle.np_model.specs.declared.script.Page.{Page}
-use Rattle.np_model.specs.Encoding.{encodings}
+use Rattle.np_message.specs.Encoding.{encodings}
 use Rattle.np_model.specs.Side.{SideState}
 use Rattle.np_model.specs.Run.{endpoint_run}
 use Rattle.np_model.specs.PagePlan.{PageControl, page_plans, lose}

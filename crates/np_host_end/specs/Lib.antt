@@ -1,8 +1,10 @@
+pub mod Answers
 pub mod Core
 pub mod HostEnd
 pub use Rattle.np_model.specs.Script
-pub use Rattle.np_model.specs.Encoding
-pub use Rattle.np_model.specs.Decoding
+pub use Rattle.np_message.specs.Encoding
+pub use Rattle.np_message.specs.Rules
+pub use Rattle.np_message.specs.Decoding
 pub use Rattle.np_model.specs.Side
 pub use Rattle.np_model.specs.Run
 pub use Rattle.np_model.specs.PagePlan
@@ -11,3 +13,4 @@ pub use Rattle.np_model.specs.Steps
 pub use Rattle.np_model.specs.Refused
 pub use Rattle.np_model.specs.Alone
 pub use Rattle.np_endpoint.specs.End
+pub use Rattle.np_model.specs.Releases

@@ -7,7 +7,8 @@ ghost use Rattle.np_host_end.specs.Core.{control_of, GoesOn, SameBut};
 
 use crate::calls::push_call;
 use crate::host_core::Core;
-use np_model::{Outstanding, Payload, PeerState, Phase, Stage};
+use np_message::Payload;
+use np_model::{Outstanding, PeerState, Phase, Stage};
 use np_values::NoMemory;
 
 fn is_live(phase: Phase) -> bool
@@ -58,12 +59,16 @@ impl Core {
         match first_live(&self.phases) {
             Some(place) => {
                 let instance = (place + 1) as u8;
-                push_call(&mut self.outgoing, Payload::Destroy { instance })?;
+                push_call(
+                    self.alloc,
+                    &mut self.outgoing,
+                    Payload::Destroy { instance },
+                )?;
                 self.phases[place] = Phase::Destroying;
                 self.stage = Stage::Awaiting(Outstanding::Destroy(instance));
             }
             None => {
-                push_call(&mut self.outgoing, Payload::Shutdown)?;
+                push_call(self.alloc, &mut self.outgoing, Payload::Shutdown)?;
                 self.stage = Stage::Awaiting(Outstanding::Shutdown);
             }
         }

@@ -5,8 +5,9 @@ ghost use Rattle.std.specs.Prelude.{◌≡◌, ◌<◌, ◌+◌, length, OnOk};
 use crate::calls::push_call;
 use crate::host_core::Core;
 use crate::lines::{push_code, push_result};
-use np_model::{Command, Outstanding, Payload, PeerState, Phase, Stage, Texts};
-use np_values::{NoMemory, NpError, Text};
+use np_message::Payload;
+use np_model::{Command, Outstanding, PeerState, Phase, Stage};
+use np_values::{NoMemory, NpError, Text, Texts};
 
 impl Core {
     ghost use Rattle.np_model.specs.declared.page.Stage.TheVariants.{Begin, Ready, Unanswered};
@@ -39,7 +40,7 @@ impl Core {
             major,
             minor,
         };
-        push_call(&mut self.outgoing, hello)?;
+        push_call(self.alloc, &mut self.outgoing, hello)?;
         self.stage = Stage::Awaiting(Outstanding::Hello);
         Ok(())
     }
@@ -92,7 +93,7 @@ impl Core {
                         push_result(self.alloc, &mut self.journal, self.next + 1, "false")?;
                     }
                     PeerState::Compatible | PeerState::Incompatible => {
-                        push_call(&mut self.outgoing, Payload::Turn)?;
+                        push_call(self.alloc, &mut self.outgoing, Payload::Turn)?;
                         self.stage = Stage::Awaiting(Outstanding::Turn);
                     }
                 }
@@ -127,7 +128,7 @@ impl Core {
                         mime: mime.try_copy(self.alloc)?,
                         attributes: Texts::new(self.alloc),
                     };
-                    push_call(&mut self.outgoing, new)?;
+                    push_call(self.alloc, &mut self.outgoing, new)?;
                     self.phases.push(Phase::Live)?;
                     self.next += 1;
                     self.stage = Stage::Awaiting(Outstanding::New);

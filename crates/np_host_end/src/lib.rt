@@ -1,6 +1,7 @@
 //! The browser end: a page over the bytes of its plug-in, without input or output of its own.
 #![tactic(auto)]
 
+mod answer;
 mod calls;
 mod close;
 mod commands;

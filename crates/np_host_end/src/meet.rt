@@ -1,74 +1,92 @@
 //! What the page does with a message of the plug-in.
 
-ghost use Rattle.std.specs.Prelude.{◌≡◌, ◌<◌, ◌+◌, length, OnOk, IfOk};
-ghost use Rattle.np_model.specs.PagePlan.{is_level_1};
+ghost use Rattle.std.specs.Prelude.{◌≡◌, OnOk, IfOk};
 ghost use Rattle.np_model.specs.declared.page.Stage.TheVariants.{Awaiting};
-ghost use Rattle.np_host_end.specs.Core.{control_of, Meets, Replies, SameBut};
+ghost use Rattle.np_message.specs.Encoding.{kind_of, depth_byte};
+ghost use Rattle.np_message.specs.Kinds.{instance_of};
+ghost use Rattle.np_model.specs.declared.refusal.Rule.TheVariants.{WrongKind, Unmatched};
+ghost use Rattle.np_host_end.specs.Answers.{answered};
+ghost use Rattle.np_host_end.specs.Core.{control_of, Meets, MovesAs};
 
+use crate::answer::{Answer, answer_to, may_answer};
 use crate::host_core::Core;
 use crate::lines::{push_code, push_result};
-use np_endpoint::Fault;
-use np_model::{Message, Outstanding, Payload, PeerState, Rule, Stage};
+use np_endpoint::{Fault, unknown_release};
+use np_message::Message;
+use np_model::{Outstanding, PeerState, Rule, Stage};
 use np_values::{NoMemory, NpError};
 
+// A kind that answers no call of the page.
+fn wrong_kind(message: &Message) -> Fault
+    ensures value { result ≡ record { rule = WrongKind; first = kind_of message.now.body; second = instance_of message.now.body } }
+{
+    let body = message.body();
+    Fault {
+        rule: Rule::WrongKind,
+        first: u64::from(body.kind()),
+        second: u64::from(body.instance()),
+    }
+}
+
+// A reply that isn't one to the call that is open.
+fn unmatched(message: &Message) -> Fault
+    ensures value { result ≡ record { rule = Unmatched; first = depth_byte message.now.depth; second = 1 } }
+{
+    Fault {
+        rule: Rule::Unmatched,
+        first: u64::from(message.depth().byte()),
+        second: 1,
+    }
+}
+
 impl Core {
-    /// What the page does with a message while a reply is awaited.
+    /// What the page does with a message while a reply is awaited. Its releases are looked at last.
     pub fn meet(&mut self, call: Outstanding, message: &Message) -> Result<Option<Fault>, NoMemory>
         requires stage { self.old.stage ≡ Awaiting call }
-        requires level { message.now.depth.level < 65 }
         ensures meets { IfOk result (λ fault. Meets self.old self.new message.now fault) }
         ensures feed { self.new.feed ≡ self.old.feed }
     {
-        let body = &message.body;
-        if !body.is_reply() {
-            return Ok(Some(Fault {
-                rule: Rule::WrongKind,
-                first: u64::from(body.kind()),
-                second: u64::from(body.instance()),
-            }));
+        if !may_answer(message.body()) {
+            return Ok(Some(wrong_kind(message)));
         }
-        let depth = u64::from(message.depth.byte());
-        if depth == 1 && self.reply(call, message)? {
-            return Ok(None);
+        if message.depth().byte() != 1 {
+            return Ok(Some(unmatched(message)));
         }
-        Ok(Some(Fault {
-            rule: Rule::Unmatched,
-            first: depth,
-            second: 1,
-        }))
+        let Some(answer) = answer_to(call, message.body()) else {
+            return Ok(Some(unmatched(message)));
+        };
+        if let Some(fault) = unknown_release(&self.phases, message.releases()) {
+            return Ok(Some(fault));
+        }
+        self.take_answer(answer)?;
+        Ok(None)
     }
 
-    /// What a reply at the call's depth does; false where it is none to that call.
-    fn reply(&mut self, call: Outstanding, message: &Message) -> Result<bool, NoMemory>
-        requires stage { self.old.stage ≡ Awaiting call }
-        ensures replies { IfOk result (λ fits. Replies self.old self.new call message.now fits) }
+    /// What an answer to the open call does.
+    fn take_answer(&mut self, answer: Answer) -> Result<(), NoMemory>
+        ensures moves { OnOk result (MovesAs self.old self.new (answered (control_of self.old) answer)) }
         ensures feed { self.new.feed ≡ self.old.feed }
     {
-        match (call, &message.body) {
-            (Outstanding::Hello, Payload::Code(NpError::NoError)) => {}
-            (Outstanding::Hello, Payload::Code(NpError::IncompatibleVersion)) => {
-                self.peer = PeerState::Incompatible;
-            }
-            (Outstanding::New, Payload::Code(error)) => {
-                push_code(self.alloc, &mut self.journal, self.next, *error)?;
-                if *error != NpError::NoError {
+        match answer {
+            Answer::Compatible => {}
+            Answer::Incompatible => self.peer = PeerState::Incompatible,
+            Answer::Created(error) => {
+                push_code(self.alloc, &mut self.journal, self.next, error)?;
+                if error != NpError::NoError {
                     let last = self.phases.len();
                     self.bury(last);
                 }
             }
-            (Outstanding::Destroy(instance), Payload::Code(NpError::NoError)) => {
-                self.bury(instance as usize);
-            }
-            (Outstanding::Turn, Payload::Done) => {
+            Answer::Destroyed(instance) => self.bury(instance as usize),
+            Answer::Turned => {
                 push_result(self.alloc, &mut self.journal, self.next, "true void")?;
             }
-            (Outstanding::Shutdown, Payload::Done) => {
+            Answer::ShutDown => {
                 self.stage = Stage::Ended;
-                return Ok(true);
+                return Ok(());
             }
-            _ => return Ok(false),
         }
         self.stage = Stage::Ready;
-        Ok(true)
+        Ok(())
     }
 }

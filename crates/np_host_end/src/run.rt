@@ -6,7 +6,7 @@ ghost use Rattle.np_model.specs.declared.page.Stage.TheVariants.{Awaiting};
 use crate::host_core::Core;
 use np_endpoint::Halt;
 use np_laws::more_messages_law;
-use np_model::{Outstanding, Stage};
+use np_model::{Outstanding, Refusal, Stage};
 use np_values::NoMemory;
 use np_wire::FeedError;
 
@@ -55,7 +55,7 @@ impl Core {
                 None => Ok(None),
                 Some(fault) => Ok(Some(Halt::Refused(fault.refusal(at)))),
             },
-            Err(FeedError::Wire(error)) => Ok(Some(Halt::Refused(error.refusal()))),
+            Err(FeedError::Wire(error)) => Ok(Some(Halt::Refused(Refusal::of_fault(error)))),
             Err(FeedError::NoMemory) => Err(NoMemory),
         }
     }

@@ -1,7 +1,7 @@
 -- One side alone: more messages don't change what it came to, what it sent and printed only grows, and it rests at one place.
 use Rattle.std.proofs.Common.{◌≡◌, ℕ, zero, suc, ◌+◌, ◌≤◌, List, [], ◌∷◌, ◌++◌, length, refl, sym, ap, ◌∙◌, subst, arith, append_assoc, drop, take, Option, Some, None, inl, inr, ◌⊎◌, ⊎_elim, length-append}
 use Rattle.std.proofs.lemmas.List.{append-nil, take-append-le, drop_at}
-use Rattle.np_model.specs.declared.message.Message.{Message}
+use Rattle.np_message.specs.Message.{Message}
 use Rattle.np_model.specs.Side.{SideState, Micro, Control, Send, Deliver, Print, deliver, micro_step, run_steps, examine, at_start}
 use Rattle.np_model.specs.Run.{Pace, Acts, Awaits, HasEnded, Meeting, Accepts, Refuses, Plans, first, next_message, meets, listens, turn_at, turn, endpoint_run, HasNone, Rests, RestsAt}
 

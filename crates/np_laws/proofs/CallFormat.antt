@@ -1,7 +1,6 @@
 -- The calls of a well-formed page are messages of the format.
 use Rattle.std.proofs.Common.{◌≡◌, ℕ, zero, suc, ◌+◌, ◌-◌, ◌<◌, ◌≤◌, List, [], ◌∷◌, ◌++◌, length, leb, Bool, true, false, refl, sym, ap, ◌∙◌, subst, arith, Option, Some, None, length-append}
 use Rattle.std.specs.Prelude.{if◌then◌else◌, position, slice_set}
-use Rattle.std.specs.Str.{is_utf8}
 use Rattle.std.specs.List.{list_all}
 use Rattle.std.proofs.lemmas.Bool.{leb-true, and_parts}
 use Rattle.std.proofs.lemmas.List.{length-set}
@@ -12,9 +11,9 @@ use Rattle.np_values.specs.declared.error.NpError.TheVariants.{NoError, Incompat
 use Rattle.np_model.specs.declared.script.Command.{Command}
 use Rattle.np_model.specs.declared.script.Command.TheVariants.{Create, Turn}
 use Rattle.np_model.specs.declared.script.Page.{Page}
-use Rattle.np_model.specs.declared.message.Payload.{Payload}
-use Rattle.np_model.specs.declared.message.Payload.TheVariants as payloads
-use Rattle.np_model.specs.declared.message.Message.{Message}
+use Rattle.np_message.specs.declared.payload.Payload.{Payload}
+use Rattle.np_message.specs.declared.payload.Payload.TheVariants as payloads
+use Rattle.np_message.specs.Message.{Message}
 use Rattle.np_model.specs.declared.page.Outstanding.{Outstanding}
 use Rattle.np_model.specs.declared.page.Outstanding.TheVariants as calls
 use Rattle.np_model.specs.declared.page.PeerState.{PeerState}
@@ -25,10 +24,13 @@ use Rattle.np_model.specs.declared.page.Stage.{Stage}
 use Rattle.np_model.specs.declared.page.Stage.TheVariants.{Begin, Ready, Awaiting, Unanswered, Ended}
 use Rattle.np_model.specs.declared.refusal.Rule.TheVariants.{WrongKind}
 use Rattle.np_model.specs.Script.{IsWellFormed, commands_fit, has_text}
-use Rattle.np_model.specs.Encoding.{KeepsFormat, KeepsKind, IsTyped, AreMessages, kind_of}
+use Rattle.np_message.specs.Encoding.{kind_of}
+use Rattle.np_message.specs.Rules.{KeepsFormat, KeepsKind, IsTyped, IsTypedBody, AreMessages}
 use Rattle.np_model.specs.Side.{SideState, run_steps, examine, at_start}
 use Rattle.np_model.specs.Run.{Acts, Meeting, Accepts, Refuses, next_message, meets, listens, turn_at, turn, endpoint_run}
-use Rattle.np_model.specs.PagePlan.{PageControl, page_plans, page_start, at_level_1, calls_for, with_phase, with_instance, last_instance, begun, create_plan, turn_plan, close_plan, end_plan, next_plan, lost_plan, go_plan, pace_at, is_live, created, greeted, destroyed, unmatched, reply_plan, is_reply, is_level_1, instance_of, meet_at, meet_plan}
+use Rattle.np_model.specs.PagePlan.{PageControl, page_plans, page_start, at_level_1, calls_for, with_phase, with_instance, last_instance, begun, create_plan, turn_plan, close_plan, end_plan, next_plan, lost_plan, go_plan, pace_at, is_live, created, greeted, destroyed, unmatched, reply_plan, may_answer, is_level_1, meet_at, answer_plan, meet_plan}
+use Rattle.np_message.specs.Kinds.{instance_of}
+use Rattle.np_model.proofs.Settled.{settled-by}
 use Rattle.np_laws.proofs.Lost.{acts}
 
 -- ---- commands that fit
@@ -41,13 +43,9 @@ few-begun begun (Create mime mode ∷ commands) h =
     omega arith
 few-begun begun (Turn ∷ commands) h = few-begun begun commands h
 
-text-length : (text : List ℕ) → is_text text ≡ true → length text ≤ 2048
-unfolding is_text
-text-length text e = leb-true (length text) 2048 (and_parts (leb (length text) 2048) (is_utf8 text) e).0
-
 -- ---- messages of the format
 
-one-more-message : (messages : List Message) (m : Message) → AreMessages messages → KeepsFormat m × IsTyped m.body → AreMessages (messages ++ m ∷ [])
+one-more-message : (messages : List Message) (m : Message) → AreMessages messages → KeepsFormat m × IsTyped m → AreMessages (messages ++ m ∷ [])
 one-more-message [] m h f = (f, tt)
 one-more-message (x ∷ messages) m h f = (h.0, one-more-message messages m h.1 f)
 
@@ -65,9 +63,9 @@ record Fits (phases : List Phase) (commands : List Command) : Type 0 where
 same-number : (phases others : List Phase) (commands : List Command) → length others ≡ length phases → Fits phases commands → Fits others commands
 same-number phases others commands e f = record { texts = f.texts; fits = ap (λ n. commands_fit n commands) e ∙ f.fits }
 
-call-formed : (c : PageControl) (call : Outstanding) (body : Payload) (p : SideState PageControl) → KeepsKind body → IsTyped body → AreMessages p.sent → Fits c.phases c.commands → Formed (run_steps (calls_for c call body) p)
+call-formed : (c : PageControl) (call : Outstanding) (body : Payload) (p : SideState PageControl) → KeepsKind body → IsTypedBody body → AreMessages p.sent → Fits c.phases c.commands → Formed (run_steps (calls_for c call body) p)
 call-formed c call body p k t h f = record {
-  messages = one-more-message p.sent (at_level_1 body) h (record { above = omega arith; below = omega arith; body = k }, t);
+  messages = one-more-message p.sent (at_level_1 body) h (record { above = omega arith; below = omega arith; few = omega arith; rising = tt; body = k }, record { releases = tt; body = t });
   texts = f.texts;
   fits = f.fits;
 }
@@ -95,8 +93,7 @@ create-formed Compatible c mime mode p h t low high f =
     let below : length (c.phases ++ Live ∷ []) < 256 = omega (arith, all) in
     let some : 0 < mode = omega (arith, low) in
     let known : mode < 3 = omega (arith, high) in
-    let short = text-length mime t in
-    call-formed (with_instance c Live) calls.New (payloads.New (last_instance (with_instance c Live)) mode mime []) p (above, some, known, short, (0, omega arith, refl)) (below, t, tt) h (f Live)
+    call-formed (with_instance c Live) calls.New (payloads.New (last_instance (with_instance c Live)) mode mime []) p (above, some, known, (0, omega arith, refl)) (below, t, tt) h (f Live)
 create-formed Incompatible c mime mode p h t low high f = record { messages = h; texts = (f Dead).texts; fits = (f Dead).fits }
 create-formed Lost c mime mode p h t low high f = record { messages = h; texts = (f Dead).texts; fits = (f Dead).fits }
 
@@ -165,7 +162,9 @@ at-kept c m (Awaiting call) = if-kept c m (is_level_1 m.depth) (reply_plan c m c
 at-kept c m stage = tt
 
 meet-kept : (c : PageControl) (m : Message) → IsKept c m (meet_plan c m)
-meet-kept c m = if-kept c m (is_reply m.body) (meet_at c m c.stage) (Refuses WrongKind (kind_of m.body) (instance_of m.body)) (at-kept c m c.stage) tt
+meet-kept c m =
+    settled-by (IsKept c m) c.phases m (answer_plan c m) (λ rule a b. tt)
+    (if-kept c m (may_answer m.body) (meet_at c m c.stage) (Refuses WrongKind (kind_of m.body) (instance_of m.body)) (at-kept c m c.stage) tt)
 
 heard-formed : (page : Page) (p : SideState PageControl) → Formed p → (o : Option Message) → Formed (listens (page_plans page) p o)
 heard-formed page p h None = h

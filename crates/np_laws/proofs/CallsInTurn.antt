@@ -12,9 +12,9 @@ use Rattle.np_model.specs.declared.script.Command.{Command}
 use Rattle.np_model.specs.declared.script.Command.TheVariants.{Create, Turn}
 use Rattle.np_model.specs.declared.script.Page.{Page}
 use Rattle.np_model.specs.declared.script.Plugin.{Plugin}
-use Rattle.np_model.specs.declared.message.Payload.{Payload}
-use Rattle.np_model.specs.declared.message.Payload.TheVariants as payloads
-use Rattle.np_model.specs.declared.message.Message.{Message}
+use Rattle.np_message.specs.declared.payload.Payload.{Payload}
+use Rattle.np_message.specs.declared.payload.Payload.TheVariants as payloads
+use Rattle.np_message.specs.Message.{Message}
 use Rattle.np_model.specs.declared.page.Outstanding.{Outstanding}
 use Rattle.np_model.specs.declared.page.Outstanding.TheVariants as calls
 use Rattle.np_model.specs.declared.page.PeerState.{PeerState}
@@ -27,8 +27,11 @@ use Rattle.np_model.specs.declared.plugin.PluginStage.TheVariants as stages
 use Rattle.np_model.specs.declared.refusal.Rule.{Rule}
 use Rattle.np_model.specs.Side.{SideState, run_steps, examine, at_start}
 use Rattle.np_model.specs.Run.{Acts, Meeting, Accepts, Refuses, next_message, meets, listens, turn_at, turn}
-use Rattle.np_model.specs.PagePlan.{PageControl, page_plans, page_start, at_level_1, calls_for, with_phase, with_instance, last_instance, begun, create_plan, turn_plan, close_plan, end_plan, next_plan, go_plan, pace_at, is_live, created, greeted, meet_at, meet_plan, is_reply}
-use Rattle.np_model.specs.PluginPlan.{PluginControl, plugin_start, phase_of, phase_after, new_answer, may_come, may_follow, control_after_call, reply_message}
+use Rattle.np_model.specs.PagePlan.{PageControl, page_plans, page_start, at_level_1, calls_for, with_phase, with_instance, last_instance, begun, create_plan, turn_plan, close_plan, end_plan, next_plan, go_plan, pace_at, is_live, created, greeted, meet_at, meet_plan}
+use Rattle.np_message.specs.Kinds.{is_reply}
+use Rattle.np_model.specs.Releases.{phase_of, settled}
+use Rattle.np_model.proofs.Settled.{settled-bare}
+use Rattle.np_model.specs.PluginPlan.{PluginControl, plugin_start, phase_after, new_answer, may_come, may_follow, control_after_call, reply_message}
 use Rattle.np_laws.specs.Laws.{AreCallsInTurn, control_after_calls}
 use Rattle.np_laws.proofs.Lost.{acts}
 use Rattle.np_laws.proofs.LiveInstances.{live, live-more, live-destroying}
@@ -71,7 +74,7 @@ destroyed-shows : (phases known : List Phase) (i : ℕ) → map is_live phases �
 destroyed-shows phases known i e = ap (λ l. map is_live l) (set-twice phases i Destroying Dead) ∙ map-set is_live phases i Dead ∙ ap (λ l. set l i false) e ∙ sym (map-set is_live known i Dead)
 
 -- an instance that is live on the page is live in the plug-in
-live-known : (c : PluginControl) (phases : List Phase) (place : ℕ) → map is_live phases ≡ map is_live c.phases → position is_live phases ≡ Some place → is_live (phase_of c (place + 1)) ≡ true
+live-known : (c : PluginControl) (phases : List Phase) (place : ℕ) → map is_live phases ≡ map is_live c.phases → position is_live phases ≡ Some place → is_live (phase_of c.phases (place + 1)) ≡ true
 live-known c phases place e f =
     let found = position-Some is_live phases place Absent f in
     let i : place + 1 - 1 ≡ place = omega arith in
@@ -111,7 +114,7 @@ stands-at plugin p peer e f h s t =
 
 call-stands : (plugin : Plugin) (c : PageControl) (call : Outstanding) (body : Payload) (p : SideState PageControl) → AreCallsInTurn plugin plugin_start p.sent → may_come (led plugin p) (led plugin p).stage body ≡ true → is_reply body ≡ false → MatchesOpen plugin c.peer c.phases (control_after_call plugin (led plugin p) body) call → Stands plugin (run_steps (calls_for c call body) p)
 call-stands plugin c call body p h may is_call m = record {
-  calls = one-more-in-turn plugin plugin_start p.sent (at_level_1 body) h (may, is_call, refl, refl);
+  calls = one-more-in-turn plugin plugin_start p.sent (at_level_1 body) h (may, is_call, refl, refl, refl);
   matches = subst (λ d. MatchesOpen plugin c.peer c.phases d call) (sym (calls-lead-append plugin plugin_start p.sent (at_level_1 body ∷ []))) m;
 }
 
@@ -190,8 +193,10 @@ greeted-taken plugin c d m false h =
 answer-taken : (plugin : Plugin) (c : PageControl) (d : PluginControl) (body : Payload) (call : Outstanding) → c.stage ≡ Awaiting call → asks body ≡ Some call → MatchesOpen plugin c.peer c.phases d call → IsTaken plugin d (reply_message plugin (at_level_1 body)) (meet_plan c (reply_message plugin (at_level_1 body)))
 answer-taken plugin c d body call e a h = at body call e a h
   where
-    there : (body : Payload) (call : Outstanding) → c.stage ≡ Awaiting call → IsTaken plugin d (reply_message plugin (at_level_1 body)) (meet_at c (reply_message plugin (at_level_1 body)) (Awaiting call)) → IsTaken plugin d (reply_message plugin (at_level_1 body)) (meet_at c (reply_message plugin (at_level_1 body)) c.stage)
-    there body call e t = subst (λ s. IsTaken plugin d (reply_message plugin (at_level_1 body)) (meet_at c (reply_message plugin (at_level_1 body)) s)) (sym e) t
+    there : (body : Payload) (call : Outstanding) → c.stage ≡ Awaiting call → IsTaken plugin d (reply_message plugin (at_level_1 body)) (meet_at c (reply_message plugin (at_level_1 body)) (Awaiting call)) → IsTaken plugin d (reply_message plugin (at_level_1 body)) (settled c.phases (reply_message plugin (at_level_1 body)) (meet_at c (reply_message plugin (at_level_1 body)) c.stage))
+    there body call e t =
+        subst (λ x. IsTaken plugin d (reply_message plugin (at_level_1 body)) x) (sym (settled-bare c.phases (reply_message plugin (at_level_1 body)) (meet_at c (reply_message plugin (at_level_1 body)) c.stage) refl))
+        (subst (λ s. IsTaken plugin d (reply_message plugin (at_level_1 body)) (meet_at c (reply_message plugin (at_level_1 body)) s)) (sym e) t)
 
     open_as : (call other : Outstanding) → Some call ≡ Some other → MatchesOpen plugin c.peer c.phases d other → MatchesOpen plugin c.peer c.phases d call
     open_as call other e h = let same : call ≡ other = cc in subst (λ x. MatchesOpen plugin c.peer c.phases d x) (sym same) h
@@ -214,8 +219,7 @@ answer-taken plugin c d body call e a h = at body call e a h
     at payloads.Shutdown call e a h =
         let k = open_as calls.Shutdown call a h in
         there payloads.Shutdown calls.Shutdown (as_stage calls.Shutdown call a e) (λ p. record { sent = refl; matches = k })
-    at (payloads.Code error) call e a h = let n : ⊥ = cc in absurd n
-    at payloads.Done call e a h = let n : ⊥ = cc in absurd n
+    at body call e a h = let n : ⊥ = cc in absurd n
 
 -- ---- its turns
 

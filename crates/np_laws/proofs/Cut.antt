@@ -2,7 +2,7 @@
 use Rattle.std.proofs.Common.{◌≡◌, ℕ, zero, suc, ◌+◌, ◌-◌, ◌≤◌, List, length, refl, sym, ap, ◌∙◌, subst, arith, take, Option, Some, None, inl, inr, ◌⊎◌, ⊎_elim}
 use Rattle.std.proofs.lemmas.List.{take_all}
 use Rattle.std.proofs.lemmas.Bool.{cases_lt}
-use Rattle.np_model.specs.declared.message.Message.{Message}
+use Rattle.np_message.specs.Message.{Message}
 use Rattle.np_model.specs.Side.{SideState}
 use Rattle.np_model.specs.Run.{Plans, turn, Machine, through, page_turn, plugin_turn, machine_run, endpoint_run, Rests, RestsAt, PageRests, PluginRests}
 use Rattle.np_laws.proofs.Alone.{Extends, extends-length, extends-take, turn-grows}

@@ -6,9 +6,9 @@ use Rattle.np_values.specs.declared.error.NpError.TheVariants.{NoError, Incompat
 use Rattle.np_model.specs.declared.script.Command.{Command}
 use Rattle.np_model.specs.declared.script.Command.TheVariants.{Create, Turn}
 use Rattle.np_model.specs.declared.script.Page.{Page}
-use Rattle.np_model.specs.declared.message.Payload.{Payload}
-use Rattle.np_model.specs.declared.message.Payload.TheVariants as payloads
-use Rattle.np_model.specs.declared.message.Message.{Message}
+use Rattle.np_message.specs.declared.payload.Payload.{Payload}
+use Rattle.np_message.specs.declared.payload.Payload.TheVariants as payloads
+use Rattle.np_message.specs.Message.{Message}
 use Rattle.np_model.specs.declared.page.Outstanding.{Outstanding}
 use Rattle.np_model.specs.declared.page.Outstanding.TheVariants as calls
 use Rattle.np_model.specs.declared.page.PeerState.{PeerState}
@@ -17,10 +17,12 @@ use Rattle.np_model.specs.declared.page.Phase.TheVariants.{Live, Destroying, Dea
 use Rattle.np_model.specs.declared.page.Stage.{Stage}
 use Rattle.np_model.specs.declared.page.Stage.TheVariants.{Begin, Ready, Awaiting, Unanswered, Ended}
 use Rattle.np_model.specs.declared.refusal.Rule.TheVariants.{WrongKind}
-use Rattle.np_model.specs.Encoding.{kind_of}
+use Rattle.np_message.specs.Encoding.{kind_of}
 use Rattle.np_model.specs.Side.{SideState, run_steps, examine, at_start}
 use Rattle.np_model.specs.Run.{Acts, Meeting, Accepts, Refuses, next_message, meets, listens, turn_at, turn, endpoint_run}
-use Rattle.np_model.specs.PagePlan.{PageControl, page_plans, page_start, at_level_1, calls_for, with_phase, with_instance, last_instance, begun, create_plan, turn_plan, close_plan, end_plan, next_plan, go_plan, pace_at, is_live, resumes, created, greeted, destroyed, unmatched, reply_plan, is_reply, is_level_1, instance_of, meet_at, meet_plan}
+use Rattle.np_model.specs.PagePlan.{PageControl, page_plans, page_start, at_level_1, calls_for, with_phase, with_instance, last_instance, begun, create_plan, turn_plan, close_plan, end_plan, next_plan, go_plan, pace_at, is_live, resumes, created, greeted, destroyed, unmatched, reply_plan, may_answer, is_level_1, meet_at, answer_plan, meet_plan}
+use Rattle.np_message.specs.Kinds.{instance_of}
+use Rattle.np_model.proofs.Settled.{settled-by}
 use Rattle.np_laws.proofs.Lost.{acts}
 use Rattle.np_laws.proofs.LiveInstances.{live, live-more, live-dead, live-destroying}
 use Rattle.np_laws.proofs.PagePace.{Paced, PacedAt, page-paced}
@@ -145,7 +147,9 @@ at-owes limit c m (Awaiting call) h = if-owes limit m (is_level_1 m.depth) (repl
 at-owes limit c m stage h = tt
 
 meet-owes : (limit : ℕ) (c : PageControl) (m : Message) → owed (ahead c) c.stage ≤ limit → Owes limit m (meet_plan c m)
-meet-owes limit c m h = if-owes limit m (is_reply m.body) (meet_at c m c.stage) (Refuses WrongKind (kind_of m.body) (instance_of m.body)) (at-owes limit c m c.stage h) tt
+meet-owes limit c m h =
+    settled-by (Owes limit m) c.phases m (answer_plan c m) (λ rule a b. tt)
+    (if-owes limit m (may_answer m.body) (meet_at c m c.stage) (Refuses WrongKind (kind_of m.body) (instance_of m.body)) (at-owes limit c m c.stage h) tt)
 
 heard-few : (limit : ℕ) (page : Page) (p : SideState PageControl) → Few limit p → (o : Option Message) → Few limit (listens (page_plans page) p o)
 heard-few limit page p h None = h

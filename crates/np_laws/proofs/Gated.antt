@@ -1,6 +1,6 @@
 -- Both sides: each is its endpoint run on the messages of the other that reach it, and a gate changes nothing before it is reached.
 use Rattle.std.proofs.Common.{◌≡◌, ℕ, zero, suc, ◌+◌, ◌≤◌, List, [], ◌∷◌, length, refl, sym, ap, ◌∙◌, subst, arith, take, Option, Some, None}
-use Rattle.np_model.specs.declared.message.Message.{Message}
+use Rattle.np_message.specs.Message.{Message}
 use Rattle.np_model.specs.Side.{SideState}
 use Rattle.np_model.specs.Run.{Plans, turn, endpoint_run, Machine, Side, OfPage, OfPlugin, through, page_turn, plugin_turn, run, Rests, RestsAt}
 use Rattle.np_laws.proofs.Alone.{Extends, extends-same, extends-trans, extends-take, take-extends, turn-grows, endpoint-more, rests-stay, one_rest}

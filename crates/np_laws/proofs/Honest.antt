@@ -2,8 +2,8 @@
 use Rattle.std.proofs.Common.{◌≡◌, ℕ, zero, suc, List, [], ◌∷◌, length, map, refl, sym, ap, ◌∙◌, subst, drop, Some, None}
 use Rattle.np_model.specs.declared.script.Page.{Page}
 use Rattle.np_model.specs.declared.script.Plugin.{Plugin}
-use Rattle.np_model.specs.declared.message.Payload.{Payload}
-use Rattle.np_model.specs.declared.message.Message.{Message}
+use Rattle.np_message.specs.declared.payload.Payload.{Payload}
+use Rattle.np_message.specs.Message.{Message}
 use Rattle.np_model.specs.declared.page.Outstanding.{Outstanding}
 use Rattle.np_model.specs.declared.page.Stage.{Stage}
 use Rattle.np_model.specs.declared.page.Stage.TheVariants.{Begin, Ready, Awaiting, Unanswered, Ended}

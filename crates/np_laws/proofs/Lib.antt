@@ -13,8 +13,7 @@ pub mod Honest
 pub mod Replies
 pub mod FewCalls
 pub mod Weights
-pub mod MessageRows
-pub mod FaultRows
 pub mod PageRows
 pub mod ServeRows
 pub mod LineRows
+pub mod RefusalRows

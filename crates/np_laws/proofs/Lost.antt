@@ -1,6 +1,6 @@
 -- The page goes on alone after the plug-in is lost: it sends nothing more, and ends.
 use Rattle.std.proofs.Common.{◌≡◌, ℕ, zero, suc, List, [], ◌∷◌, refl, sym, ap, ◌∙◌, subst}
-use Rattle.np_model.specs.declared.message.Message.{Message}
+use Rattle.np_message.specs.Message.{Message}
 use Rattle.np_model.specs.declared.script.Command.{Command}
 use Rattle.np_model.specs.declared.script.Command.TheVariants.{Create, Turn}
 use Rattle.np_model.specs.declared.script.Page.{Page}

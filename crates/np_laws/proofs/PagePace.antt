@@ -9,10 +9,10 @@ use Rattle.np_values.specs.declared.error.NpError.TheVariants.{NoError, Incompat
 use Rattle.np_model.specs.declared.script.Command.{Command}
 use Rattle.np_model.specs.declared.script.Command.TheVariants.{Create, Turn}
 use Rattle.np_model.specs.declared.script.Page.{Page}
-use Rattle.np_model.specs.declared.message.Payload.{Payload}
-use Rattle.np_model.specs.declared.message.Payload.TheVariants as payloads
-use Rattle.np_model.specs.declared.message.Depth.{Depth}
-use Rattle.np_model.specs.declared.message.Message.{Message}
+use Rattle.np_message.specs.declared.payload.Payload.{Payload}
+use Rattle.np_message.specs.declared.payload.Payload.TheVariants as payloads
+use Rattle.np_message.specs.declared.depth.Depth.{Depth}
+use Rattle.np_message.specs.Message.{Message}
 use Rattle.np_model.specs.declared.page.Outstanding.{Outstanding}
 use Rattle.np_model.specs.declared.page.Outstanding.TheVariants as calls
 use Rattle.np_model.specs.declared.page.PeerState.{PeerState}
@@ -21,10 +21,12 @@ use Rattle.np_model.specs.declared.page.Phase.TheVariants.{Live, Destroying}
 use Rattle.np_model.specs.declared.page.Stage.{Stage}
 use Rattle.np_model.specs.declared.page.Stage.TheVariants.{Begin, Ready, Awaiting, Unanswered, Ended}
 use Rattle.np_model.specs.declared.refusal.Rule.TheVariants.{WrongKind}
-use Rattle.np_model.specs.Encoding.{kind_of}
+use Rattle.np_message.specs.Encoding.{kind_of}
 use Rattle.np_model.specs.Side.{SideState, run_steps, examine, at_start}
 use Rattle.np_model.specs.Run.{Acts, Meeting, Accepts, Refuses, first, next_message, meets, listens, turn_at, turn, endpoint_run}
-use Rattle.np_model.specs.PagePlan.{PageControl, page_plans, page_start, at_level_1, calls_for, with_phase, with_instance, last_instance, begun, create_plan, turn_plan, close_plan, end_plan, next_plan, go_plan, pace_at, is_live, created, greeted, destroyed, unmatched, reply_plan, is_reply, is_level_1, instance_of, meet_at, meet_plan}
+use Rattle.np_model.specs.PagePlan.{PageControl, page_plans, page_start, at_level_1, calls_for, with_phase, with_instance, last_instance, begun, create_plan, turn_plan, close_plan, end_plan, next_plan, go_plan, pace_at, is_live, created, greeted, destroyed, unmatched, reply_plan, may_answer, is_level_1, meet_at, answer_plan, meet_plan}
+use Rattle.np_message.specs.Kinds.{instance_of}
+use Rattle.np_model.proofs.Settled.{settled-by}
 use Rattle.np_laws.specs.Laws.{has_no_attributes}
 use Rattle.np_laws.proofs.Lost.{acts}
 
@@ -36,17 +38,16 @@ asks (payloads.New instance mode mime (name ∷ rest)) = None
 asks (payloads.Destroy instance) = Some (calls.Destroy instance)
 asks payloads.Turn = Some calls.Turn
 asks payloads.Shutdown = Some calls.Shutdown
-asks (payloads.Code error) = None
-asks payloads.Done = None
+asks body = None
 
 -- ---- what the page sends
 
 abbrev pub level_1 : Depth
 level_1 = record { level = 1; task = false }
 
--- every message is a call of level 1
+-- every message is a call of level 1, and gives nothing back
 pub record AreCalls (messages : List Message) : Type 0 where
-  pub at_place : (k : ℕ) (m : Message) → first (drop k messages) ≡ Some m → (call : Outstanding) × (asks m.body ≡ Some call) × (m.depth ≡ level_1)
+  pub at_place : (k : ℕ) (m : Message) → first (drop k messages) ≡ Some m → (call : Outstanding) × (asks m.body ≡ Some call) × (m.depth ≡ level_1) × (m.releases ≡ [])
 
 first-last : (k : ℕ) (l : List Message) (x m : Message) → first (drop k (l ++ x ∷ [])) ≡ Some m → (first (drop k l) ≡ Some m) ⊎ (m ≡ x)
 first-last zero [] x m e = inr (cc)
@@ -55,9 +56,9 @@ first-last (suc zero) [] x m e = cc
 first-last (suc (suc k)) [] x m e = cc
 first-last (suc k) (y ∷ l) x m e = first-last k l x m e
 
-one-more : (messages : List Message) (m : Message) (call : Outstanding) → asks m.body ≡ Some call → m.depth ≡ level_1 → AreCalls messages → AreCalls (messages ++ m ∷ [])
-one-more messages m call e d h = record {
-  at_place = λ k x f. ⊎_elim (λ g. h.at_place k x g) (λ g. (call, ap (λ y. asks y.body) g ∙ e, ap (λ y. y.depth) g ∙ d)) (first-last k messages m x f);
+one-more : (messages : List Message) (m : Message) (call : Outstanding) → asks m.body ≡ Some call → m.depth ≡ level_1 → m.releases ≡ [] → AreCalls messages → AreCalls (messages ++ m ∷ [])
+one-more messages m call e d none h = record {
+  at_place = λ k x f. ⊎_elim (λ g. h.at_place k x g) (λ g. (call, ap (λ y. asks y.body) g ∙ e, ap (λ y. y.depth) g ∙ d, ap (λ y. y.releases) g ∙ none)) (first-last k messages m x f);
 }
 
 -- the last message that was sent is the call that is open, and all others were answered
@@ -84,7 +85,7 @@ paced-at p stage e h t = record { are_calls = h; pace = subst (λ s. PacedAt p.s
 
 call-paced : (c : PageControl) (call : Outstanding) (body : Payload) (p : SideState PageControl) → asks body ≡ Some call → AreCalls p.sent → length p.sent ≡ length p.examined → Paced (run_steps (calls_for c call body) p)
 call-paced c call body p e h t = record {
-  are_calls = one-more p.sent (at_level_1 body) call e refl h;
+  are_calls = one-more p.sent (at_level_1 body) call e refl refl h;
   pace = record {
     body = body;
     asked = e;
@@ -159,7 +160,9 @@ at-settles c m (Awaiting call) = if-settles m (is_level_1 m.depth) (reply_plan c
 at-settles c m stage = tt
 
 meet-settles : (c : PageControl) (m : Message) → Settles m (meet_plan c m)
-meet-settles c m = if-settles m (is_reply m.body) (meet_at c m c.stage) (Refuses WrongKind (kind_of m.body) (instance_of m.body)) (at-settles c m c.stage) tt
+meet-settles c m =
+    settled-by (Settles m) c.phases m (answer_plan c m) (λ rule a b. tt)
+    (if-settles m (may_answer m.body) (meet_at c m c.stage) (Refuses WrongKind (kind_of m.body) (instance_of m.body)) (at-settles c m c.stage) tt)
 
 settled-paced : (m : Message) (p q : SideState PageControl) → AreCalls p.sent → length p.sent ≡ suc (length p.examined) → Settled m p q → Paced q
 settled-paced m p q h t r =
@@ -199,7 +202,7 @@ page-turn-paced page got p h = at p.control.stage refl
 pub page-paced : (page : Page) (got : List Message) (n : ℕ) → Paced (endpoint_run (page_plans page) got n (at_start (page_start page)))
 page-paced page got zero = record { are_calls = record { at_place = λ k m e. nothing k m e }; pace = refl }
   where
-    nothing : (k : ℕ) (m : Message) → first (drop k []) ≡ Some m → (call : Outstanding) × (asks m.body ≡ Some call) × (m.depth ≡ level_1)
+    nothing : (k : ℕ) (m : Message) → first (drop k []) ≡ Some m → (call : Outstanding) × (asks m.body ≡ Some call) × (m.depth ≡ level_1) × (m.releases ≡ [])
     nothing zero m e = let n : ⊥ = cc in absurd n
     nothing (suc k) m e = let n : ⊥ = cc in absurd n
 page-paced page got (suc n) = page-turn-paced page got (endpoint_run (page_plans page) got n (at_start (page_start page))) (page-paced page got n)
@@ -209,12 +212,7 @@ page-paced page got (suc n) = page-turn-paced page got (endpoint_run (page_plans
 plain-call : (body : Payload) (call : Outstanding) → asks body ≡ Some call → has_no_attributes body ≡ true
 plain-call (payloads.New instance mode mime []) call e = refl
 plain-call (payloads.New instance mode mime (name ∷ rest)) call e = cc
-plain-call (payloads.Hello version major minor) call e = refl
-plain-call (payloads.Destroy instance) call e = refl
-plain-call payloads.Turn call e = refl
-plain-call payloads.Shutdown call e = refl
-plain-call (payloads.Code error) call e = refl
-plain-call payloads.Done call e = refl
+plain-call body call e = refl
 
 plain-calls : (messages : List Message) → AreCalls messages → list_all (λ m. has_no_attributes m.body) messages ≡ true
 plain-calls [] h = refl

@@ -1,12 +1,16 @@
 -- Worked examples of the page's plans, by computing: what it does where it doesn't wait, and with each reply.
-use Rattle.std.proofs.Common.{◌≡◌, List, [], ◌∷◌, refl, true}
+use Rattle.std.proofs.Common.{◌≡◌, ℕ, pos, List, [], ◌∷◌, refl, true, false}
 use Rattle.std.specs.Prelude.{codes}
 use Rattle.np_values.specs.declared.error.NpError.TheVariants.{NoError, Generic, InvalidFunctable, ModuleLoadFailed, IncompatibleVersion}
+use Rattle.np_values.specs.declared.reason.NpReason.TheVariants.{UserBreak}
+use Rattle.np_values.specs.declared.value.Value.TheVariants as values
+use Rattle.np_idents.specs.declared.op.Op.TheVariants as ops
+use Rattle.np_proxy.specs.declared.release.Release.{Release}
 use Rattle.np_model.specs.declared.script.Command.{Command}
 use Rattle.np_model.specs.declared.script.Command.TheVariants.{Create, Turn}
 use Rattle.np_model.specs.declared.script.Page.{Page}
-use Rattle.np_model.specs.declared.message.Payload.{Payload}
-use Rattle.np_model.specs.declared.message.Payload.TheVariants as payloads
+use Rattle.np_message.specs.declared.payload.Payload.{Payload}
+use Rattle.np_message.specs.declared.payload.Payload.TheVariants as payloads
 use Rattle.np_model.specs.declared.page.Stage.{Stage}
 use Rattle.np_model.specs.declared.page.Stage.TheVariants.{Begin, Ready, Awaiting, Unanswered, Ended}
 use Rattle.np_model.specs.declared.page.Outstanding.{Outstanding}
@@ -15,7 +19,7 @@ use Rattle.np_model.specs.declared.page.PeerState.{PeerState}
 use Rattle.np_model.specs.declared.page.PeerState.TheVariants.{Compatible, Incompatible, Lost}
 use Rattle.np_model.specs.declared.page.Phase.{Phase}
 use Rattle.np_model.specs.declared.page.Phase.TheVariants.{Live, Destroying, Dead}
-use Rattle.np_model.specs.declared.refusal.Rule.TheVariants.{WrongKind, Unmatched}
+use Rattle.np_model.specs.declared.refusal.Rule.TheVariants.{WrongKind, Unmatched, Unknown}
 use Rattle.np_model.specs.Side.{Micro, Control, Send, Deliver, Print}
 use Rattle.np_model.specs.Run.{Accepts, Refuses, Meeting}
 use Rattle.np_model.specs.Journal.{code_line, void_line, false_line}
@@ -171,12 +175,88 @@ meets-new = refl
 meets-shutdown : meets calls.Shutdown payloads.Shutdown ≡ Refuses WrongKind 12 0
 meets-shutdown = refl
 
-meets-task : meet_plan (control [] [] Compatible (Awaiting calls.Turn)) (record { depth = record { level = 1; task = true }; body = payloads.Done }) ≡ Refuses Unmatched 129 1
+meets-task : meet_plan (control [] [] Compatible (Awaiting calls.Turn)) (record { depth = record { level = 1; task = true }; releases = []; body = payloads.Done }) ≡ Refuses Unmatched 129 1
 meets-task = refl
 
 -- the kind comes before the depth
-meets-call_of_task : meet_plan (control [] [] Compatible (Awaiting calls.Turn)) (record { depth = record { level = 2; task = true }; body = payloads.Destroy 9 }) ≡ Refuses WrongKind 3 9
+meets-call_of_task : meet_plan (control [] [] Compatible (Awaiting calls.Turn)) (record { depth = record { level = 2; task = true }; releases = []; body = payloads.Destroy 9 }) ≡ Refuses WrongKind 3 9
 meets-call_of_task = refl
 
 meets-ended : meet_plan (control [] [] Compatible Ended) (at_level_1 payloads.Done) ≡ refused
 meets-ended = refl
+
+-- ---- kinds that answer no call of a page
+
+-- what becomes of this message while the second of two instances is being made
+abbrev meets_new : Payload → Meeting PageControl
+meets_new body = meet_plan (control [] (Live ∷ Live ∷ []) Compatible (Awaiting calls.New)) (at_level_1 body)
+
+meets-true : meets_new (payloads.True values.Void) ≡ Refuses WrongKind 65 0
+meets-true = refl
+
+meets-false : meets_new payloads.False ≡ Refuses WrongKind 66 0
+meets-false = refl
+
+meets-threw : meets_new (payloads.Threw (codes "no")) ≡ Refuses WrongKind 67 0
+meets-threw = refl
+
+meets-idents : meets_new (payloads.Idents []) ≡ Refuses WrongKind 68 0
+meets-idents = refl
+
+meets-number : meets_new (payloads.Number (pos 0)) ≡ Refuses WrongKind 70 0
+meets-number = refl
+
+meets-scriptable : meets_new (payloads.Scriptable 2) ≡ Refuses WrongKind 4 2
+meets-scriptable = refl
+
+meets-window : meets_new (payloads.Window 1) ≡ Refuses WrongKind 32 1
+meets-window = refl
+
+meets-get_url : meets_new (payloads.GetUrl 2 (codes "u") (pos 0)) ≡ Refuses WrongKind 33 2
+meets-get_url = refl
+
+meets-request_read : meets_new (payloads.RequestRead 1 1 (record { offset = pos 0; length = 1 } ∷ [])) ≡ Refuses WrongKind 34 1
+meets-request_read = refl
+
+meets-end_stream : meets_new (payloads.EndStream 2 1 UserBreak) ≡ Refuses WrongKind 35 2
+meets-end_stream = refl
+
+meets-call : meets_new (payloads.Call 1 1 ops.Enumerate []) ≡ Refuses WrongKind 64 1
+meets-call = refl
+
+-- ---- releases
+
+-- what becomes of Done with these releases while a turn is open; the first instance is live, the second is being destroyed and the third is dead
+abbrev meets_releases : List Release → Meeting PageControl
+meets_releases releases = meet_plan (control [] (Live ∷ Destroying ∷ Dead ∷ []) Compatible (Awaiting calls.Turn)) (record { depth = record { level = 1; task = false }; releases = releases; body = payloads.Done })
+
+abbrev release : ℕ → ℕ → Release
+release instance serial = record { instance = instance; serial = serial; times = 1 }
+
+releases-live : meets_releases (release 1 7 ∷ []) ≡ Refuses Unknown 1 7
+releases-live = refl
+
+releases-destroying : meets_releases (release 2 1 ∷ []) ≡ Refuses Unknown 2 1
+releases-destroying = refl
+
+releases-absent : meets_releases (release 4 2 ∷ []) ≡ Refuses Unknown 4 2
+releases-absent = refl
+
+-- they come late, and change nothing
+releases-dead : meets_releases (release 3 1 ∷ release 3 2 ∷ []) ≡ after (Live ∷ Destroying ∷ Dead ∷ []) Compatible Ready (Print (void_line 3) ∷ [])
+releases-dead = refl
+
+-- the first that isn't late counts
+releases-behind_dead : meets_releases (release 3 9 ∷ release 4 1 ∷ release 5 1 ∷ []) ≡ Refuses Unknown 4 1
+releases-behind_dead = refl
+
+-- the kind and the call come before the releases
+releases-wrong_kind : meet_plan (control [] (Live ∷ []) Compatible (Awaiting calls.Turn)) (record { depth = record { level = 1; task = false }; releases = release 1 7 ∷ []; body = payloads.False }) ≡ Refuses WrongKind 66 0
+releases-wrong_kind = refl
+
+releases-unmatched : meet_plan (control [] (Live ∷ []) Compatible (Awaiting calls.Turn)) (record { depth = record { level = 1; task = false }; releases = release 1 7 ∷ []; body = payloads.Code NoError }) ≡ Refuses Unmatched 1 1
+releases-unmatched = refl
+
+-- an instance is dead only behind the reply that ends it
+releases-ending : meet_plan (control [] (Destroying ∷ []) Compatible (Awaiting (calls.Destroy 1))) (record { depth = record { level = 1; task = false }; releases = release 1 7 ∷ []; body = payloads.Code NoError }) ≡ Refuses Unknown 1 7
+releases-ending = refl

@@ -6,11 +6,11 @@ use Rattle.std.specs.Prelude.{codes, decimal}
 use Rattle.np_values.specs.declared.error.NpError.TheVariants.{NoError}
 use Rattle.np_model.specs.declared.script.Command.{Command}
 use Rattle.np_model.specs.declared.script.Command.TheVariants.{Create}
-use Rattle.np_model.specs.declared.message.Payload.TheVariants as payloads
+use Rattle.np_message.specs.declared.payload.Payload.TheVariants as payloads
 use Rattle.np_model.specs.declared.page.Phase.TheVariants.{Live, Dead}
 use Rattle.np_model.specs.declared.plugin.PluginStage.TheVariants.{Serving, Ended}
 use Rattle.np_model.specs.declared.refusal.Rule.TheVariants.{WrongKind, Place, Unmatched}
-use Rattle.np_model.specs.Encoding.{encoding}
+use Rattle.np_message.specs.Encoding.{encoding}
 use Rattle.np_model.specs.Side.{SideState}
 use Rattle.np_model.specs.Journal.{new_line}
 use Rattle.np_model.specs.Run.{Refuses}
@@ -125,7 +125,7 @@ refuses-code : plugin_meet (plugin_with None) serving (at_level_1 (payloads.Code
 unfolding plugin_with serving
 refuses-code = refl
 
-refuses-task : plugin_meet (plugin_with None) serving (record { depth = record { level = 1; task = true }; body = payloads.Turn }) ≡ Refuses Place 129 0
+refuses-task : plugin_meet (plugin_with None) serving (record { depth = record { level = 1; task = true }; releases = []; body = payloads.Turn }) ≡ Refuses Place 129 0
 unfolding plugin_with serving
 refuses-task = refl
 

@@ -4,14 +4,15 @@ use Rattle.std.specs.Prelude.{if◌then◌else◌}
 use Rattle.std.specs.List.{flat_map}
 use Rattle.std.proofs.lemmas.List.{map-append, append-nil}
 use Rattle.std.proofs.lemmas.Grind.{flat_map-append}
-use Rattle.np_model.specs.declared.message.Message.{Message}
+use Rattle.np_message.specs.Message.{Message}
 use Rattle.np_model.specs.declared.refusal.Rule.TheVariants.{WrongKind, Place, Unmatched}
 use Rattle.np_model.specs.declared.script.Plugin.{Plugin}
-use Rattle.np_model.specs.Encoding.{kind_of, depth_byte}
+use Rattle.np_message.specs.Encoding.{kind_of, depth_byte}
 use Rattle.np_model.specs.Side.{SideState, run_steps, examine, at_start}
 use Rattle.np_model.specs.Run.{Pace, Acts, Awaits, HasEnded, Meeting, Accepts, Refuses, next_message, meets, listens, turn_at, turn, endpoint_run}
-use Rattle.np_model.specs.PagePlan.{is_reply, instance_of}
-use Rattle.np_model.specs.PluginPlan.{PluginControl, plugin_start, plugin_plans, plugin_pace, plugin_meet, serve_plan, may_come, control_after_call, lines_of_call, reply_message}
+use Rattle.np_message.specs.Kinds.{instance_of, is_reply}
+use Rattle.np_model.proofs.Settled.{settled-by, settled-bare}
+use Rattle.np_model.specs.PluginPlan.{PluginControl, plugin_start, plugin_plans, plugin_pace, hear_plan, plugin_meet, serve_plan, may_come, control_after_call, lines_of_call, reply_message}
 use Rattle.np_laws.specs.Laws.{RefusesNone, AreCallsInTurn, control_after_calls}
 use Rattle.np_laws.proofs.Alone.{endpoint-examined, next-is}
 
@@ -19,7 +20,7 @@ use Rattle.np_laws.proofs.Alone.{endpoint-examined, next-is}
 
 -- a call of level 1, without a task's mark, that may come there
 abbrev pub IsCallAt : PluginControl → Message → Type 0
-IsCallAt c m = (may_come c c.stage m.body ≡ true) × (is_reply m.body ≡ false) × (m.depth.level ≡ 1) × (m.depth.task ≡ false)
+IsCallAt c m = (may_come c c.stage m.body ≡ true) × (is_reply m.body ≡ false) × (m.depth.level ≡ 1) × (m.depth.task ≡ false) × (m.releases ≡ [])
 
 pub calls-lead-append : (plugin : Plugin) (c : PluginControl) (before later : List Message) → control_after_calls plugin c (before ++ later) ≡ control_after_calls plugin (control_after_calls plugin c before) later
 calls-lead-append plugin c [] later = refl
@@ -56,9 +57,10 @@ if-serves plugin q m false x y h g = g
 
 meet-serves : (plugin : Plugin) (q : SideState PluginControl) (m : Message) → Serves plugin q → Serves plugin (meets q m (plugin_meet plugin q.control m))
 meet-serves plugin q m h =
-    if-serves plugin q m (not (may_come q.control q.control.stage m.body)) (Refuses WrongKind (kind_of m.body) (instance_of m.body)) _ h
+    settled-by (λ (meeting : Meeting PluginControl). Serves plugin (meets q m meeting)) q.control.phases m (hear_plan plugin q.control m) (λ rule a b. h)
+    (if-serves plugin q m (not (may_come q.control q.control.stage m.body)) (Refuses WrongKind (kind_of m.body) (instance_of m.body)) _ h
     (if-serves plugin q m (is_reply m.body) (Refuses Unmatched (depth_byte m.depth) 0) _ h
-    (if-serves plugin q m m.depth.task (Refuses Place (depth_byte m.depth) 0) (Accepts (serve_plan plugin q.control m)) h (call-serves plugin q m h)))
+    (if-serves plugin q m m.depth.task (Refuses Place (depth_byte m.depth) 0) (Accepts (serve_plan plugin q.control m)) h (call-serves plugin q m h))))
 
 turn-serves : (plugin : Plugin) (got : List Message) (q : SideState PluginControl) → Serves plugin q → Serves plugin (turn (plugin_plans plugin) got q)
 turn-serves plugin got q h = at (plugin_pace q.control.stage)
@@ -82,7 +84,7 @@ picked : (bars replies tasks : Bool) (w x y z : Meeting PluginControl) → bars 
 picked bars replies tasks w x y z e f g = simp (e, f, g)
 
 call-accepted : (plugin : Plugin) (c : PluginControl) (m : Message) → IsCallAt c m → plugin_meet plugin c m ≡ Accepts (serve_plan plugin c m)
-call-accepted plugin c m h = picked (may_come c c.stage m.body) (is_reply m.body) m.depth.task _ _ _ _ h.0 h.1 h.3
+call-accepted plugin c m h = settled-bare c.phases m (hear_plan plugin c m) h.4 ∙ picked (may_come c c.stage m.body) (is_reply m.body) m.depth.task _ _ _ _ h.0 h.1 h.3
 
 pub plugin-honest : (plugin : Plugin) (got : List Message) → AreCallsInTurn plugin plugin_start got → RefusesNone (plugin_plans plugin) got (at_start plugin_start)
 plugin-honest plugin got h turns m rule a b awaits next refused =

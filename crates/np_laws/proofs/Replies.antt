@@ -2,17 +2,17 @@
 use Rattle.std.proofs.Common.{◌≡◌, ℕ, zero, suc, ◌+◌, ◌<◌, ◌≤◌, List, [], ◌∷◌, length, map, true, refl, sym, ap, ◌∙◌, subst, arith, None}
 use Rattle.std.proofs.lemmas.List.{length-map}
 use Rattle.np_model.specs.declared.script.Page.{Page}
-use Rattle.np_model.specs.declared.message.Payload.{Payload}
-use Rattle.np_model.specs.declared.message.Payload.TheVariants as payloads
-use Rattle.np_model.specs.declared.message.Depth.{Depth}
-use Rattle.np_model.specs.declared.message.Message.{Message}
+use Rattle.np_message.specs.declared.payload.Payload.{Payload}
+use Rattle.np_message.specs.declared.payload.Payload.TheVariants as payloads
+use Rattle.np_message.specs.declared.depth.Depth.{Depth}
+use Rattle.np_message.specs.Message.{Message}
 use Rattle.np_model.specs.declared.page.Stage.{Stage}
 use Rattle.np_model.specs.declared.page.Stage.TheVariants.{Begin, Ready, Awaiting, Unanswered, Ended}
 use Rattle.np_model.specs.Script.{IsWellFormed}
-use Rattle.np_model.specs.Encoding.{KeepsKind, IsTyped, AreMessages}
+use Rattle.np_message.specs.Rules.{KeepsKind, IsTypedBody, AreMessages}
 use Rattle.np_model.specs.Side.{SideState, at_start}
 use Rattle.np_model.specs.Run.{Plans, endpoint_run, Machine, Side, OfPage, OfPlugin, page_turn, plugin_turn, run, machine_run}
-use Rattle.np_model.specs.PagePlan.{PageControl, page_plans, page_start, is_reply}
+use Rattle.np_model.specs.PagePlan.{PageControl, page_plans, page_start, may_answer}
 use Rattle.np_model.specs.declared.script.Plugin.{Plugin}
 use Rattle.np_model.specs.PluginPlan.{PluginControl, reply_to, plugin_plans, plugin_start, reply_message}
 use Rattle.np_laws.specs.Laws.{both_start, IsReply, AreReplies, AreCallsInTurn, open_calls}
@@ -46,23 +46,17 @@ rounds-are_turns P Q rounds w = (order_of rounds, in-order P Q rounds w)
 
 -- ---- replies
 
-reply-kind : (plugin : Plugin) (body : Payload) → is_reply (reply_to plugin body) ≡ true
+reply-kind : (plugin : Plugin) (body : Payload) → may_answer (reply_to plugin body) ≡ true
 reply-kind plugin (payloads.Hello version major minor) = refl
 reply-kind plugin (payloads.New instance mode mime attributes) = refl
 reply-kind plugin (payloads.Destroy instance) = refl
-reply-kind plugin payloads.Turn = refl
-reply-kind plugin payloads.Shutdown = refl
-reply-kind plugin (payloads.Code error) = refl
-reply-kind plugin payloads.Done = refl
+reply-kind plugin body = refl
 
-reply-kept : (plugin : Plugin) (body : Payload) → KeepsKind (reply_to plugin body) × IsTyped (reply_to plugin body)
+reply-kept : (plugin : Plugin) (body : Payload) → KeepsKind (reply_to plugin body) × IsTypedBody (reply_to plugin body)
 reply-kept plugin (payloads.Hello version major minor) = (tt, tt)
 reply-kept plugin (payloads.New instance mode mime attributes) = (tt, tt)
 reply-kept plugin (payloads.Destroy instance) = (tt, tt)
-reply-kept plugin payloads.Turn = (tt, tt)
-reply-kept plugin payloads.Shutdown = (tt, tt)
-reply-kept plugin (payloads.Code error) = (tt, tt)
-reply-kept plugin payloads.Done = (tt, tt)
+reply-kept plugin body = (tt, tt)
 
 is-reply : (plugin : Plugin) (m : Message) → m.depth ≡ level_1 → IsReply (reply_message plugin m)
 is-reply plugin m d =
@@ -74,8 +68,9 @@ is-reply plugin m d =
       level = level;
       task = ap (λ (x : Depth). x.task) d;
       kind = reply-kind plugin m.body;
-      format = record { above = above; below = below; body = kept.0 };
-      typed = kept.1;
+      bare = refl;
+      format = record { above = above; below = below; few = omega arith; rising = tt; body = kept.0 };
+      typed = record { releases = tt; body = kept.1 };
     }
 
 are-replies : (plugin : Plugin) (calls : List Message) → AreCalls calls → AreReplies (map (reply_message plugin) calls)

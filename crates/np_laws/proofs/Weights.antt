@@ -6,9 +6,9 @@ use Rattle.np_values.specs.declared.error.NpError.TheVariants.{NoError, Incompat
 use Rattle.np_model.specs.declared.script.Page.{Page}
 use Rattle.np_model.specs.declared.script.Command.{Command}
 use Rattle.np_model.specs.declared.script.Command.TheVariants as commands
-use Rattle.np_model.specs.declared.message.Message.{Message}
-use Rattle.np_model.specs.declared.message.Payload.{Payload}
-use Rattle.np_model.specs.declared.message.Payload.TheVariants as payloads
+use Rattle.np_message.specs.Message.{Message}
+use Rattle.np_message.specs.declared.payload.Payload.{Payload}
+use Rattle.np_message.specs.declared.payload.Payload.TheVariants as payloads
 use Rattle.np_model.specs.declared.page.Outstanding.{Outstanding}
 use Rattle.np_model.specs.declared.page.Outstanding.TheVariants as calls
 use Rattle.np_model.specs.declared.page.Stage.{Stage}
@@ -17,7 +17,8 @@ use Rattle.np_model.specs.declared.page.PeerState.{PeerState}
 use Rattle.np_model.specs.declared.page.PeerState.TheVariants.{Compatible, Incompatible, Lost}
 use Rattle.np_model.specs.Side.{Micro}
 use Rattle.np_model.specs.Run.{Meeting, Accepts, Refuses}
-use Rattle.np_model.specs.PagePlan.{PageControl, go_plan, next_plan, end_plan, close_plan, create_plan, turn_plan, lost_plan, begun, is_live, meet_plan, meet_at, reply_plan, greeted, created, destroyed, is_reply, is_level_1}
+use Rattle.np_model.proofs.Settled.{settled-by}
+use Rattle.np_model.specs.PagePlan.{PageControl, go_plan, next_plan, end_plan, close_plan, create_plan, turn_plan, lost_plan, begun, is_live, answer_plan, meet_plan, meet_at, reply_plan, greeted, created, destroyed, may_answer, is_level_1}
 use Rattle.np_model.specs.Steps.{control_after}
 
 abbrev pub stage_weight : Stage → ℕ
@@ -116,4 +117,6 @@ light-at c m (Unanswered call) = tt
 light-at c m Ended = tt
 
 pub light : (c : PageControl) (m : Message) → Light c (meet_plan c m)
-light c m = light-cond c (is_reply m.body) _ _ (light-at c m c.stage) tt
+light c m =
+    settled-by (Light c) c.phases m (answer_plan c m) (λ rule a b. tt)
+    (light-cond c (may_answer m.body) _ _ (light-at c m c.stage) tt)

@@ -9,11 +9,11 @@ use Rattle.np_values.specs.declared.error.NpError.TheVariants.{NoError, Generic,
 use Rattle.np_model.specs.declared.script.Command.{Command}
 use Rattle.np_model.specs.declared.script.Command.TheVariants.{Create, Turn}
 use Rattle.np_model.specs.declared.script.Page.{Page}
-use Rattle.np_model.specs.declared.message.Payload.TheVariants as payloads
+use Rattle.np_message.specs.declared.payload.Payload.TheVariants as payloads
 use Rattle.np_model.specs.declared.page.Stage.TheVariants.{Awaiting, Ended}
 use Rattle.np_model.specs.declared.page.Outstanding.TheVariants as calls
 use Rattle.np_model.specs.declared.refusal.Rule.TheVariants.{WrongKind, Unmatched}
-use Rattle.np_model.specs.Encoding.{encoding}
+use Rattle.np_message.specs.Encoding.{encoding}
 use Rattle.np_model.specs.Side.{SideState, at_start}
 use Rattle.np_model.specs.Journal.{code_line, void_line, false_line}
 use Rattle.np_model.specs.Run.{Machine, Refuses, machine_run, endpoint_run}
@@ -181,7 +181,7 @@ refuses-call : meet_plan awaiting (at_level_1 payloads.Turn) ≡ Refuses WrongKi
 unfolding awaiting after_rounds page_of_version plugin_with commands
 refuses-call = refl
 
-refuses-level : meet_plan awaiting (record { depth = record { level = 2; task = false }; body = payloads.Done }) ≡ Refuses Unmatched 2 1
+refuses-level : meet_plan awaiting (record { depth = record { level = 2; task = false }; releases = []; body = payloads.Done }) ≡ Refuses Unmatched 2 1
 unfolding awaiting after_rounds page_of_version plugin_with commands
 refuses-level = refl
 

@@ -1,19 +1,20 @@
 -- The laws of runs. Each is the contract of a function of src/laws.rt. (This project's own.)
 use Rattle.std.specs.Prelude.{◌≡◌, ℕ, ◌+◌, ◌*◌, ◌≤◌, List, [], ◌∷◌, ◌++◌, length, take, map, Bool, true, false, Some, None}
 use Rattle.std.specs.List.{flat_map, list_all}
-use Rattle.np_model.specs.declared.message.Message.{Message}
-use Rattle.np_model.specs.declared.message.Payload.{Payload}
-use Rattle.np_model.specs.declared.message.Payload.TheVariants.{New}
+use Rattle.np_message.specs.Message.{Message}
+use Rattle.np_message.specs.declared.payload.Payload.{Payload}
+use Rattle.np_message.specs.declared.payload.Payload.TheVariants.{New}
 use Rattle.np_model.specs.declared.refusal.Rule.{Rule}
 use Rattle.np_model.specs.declared.script.Page.{Page}
 use Rattle.np_model.specs.declared.page.Outstanding.{Outstanding}
 use Rattle.np_model.specs.declared.page.Stage.{Stage}
 use Rattle.np_model.specs.declared.page.Stage.TheVariants.{Begin, Ready, Awaiting, Unanswered, Ended}
 use Rattle.np_model.specs.Script.{IsWellFormed}
-use Rattle.np_model.specs.Encoding.{KeepsFormat, IsTyped, AreMessages}
+use Rattle.np_message.specs.Rules.{KeepsFormat, IsTyped, AreMessages}
 use Rattle.np_model.specs.Side.{SideState, at_start}
 use Rattle.np_model.specs.Run.{Plans, Awaits, Refuses, Side, Machine, next_message, endpoint_run, run, machine_run, RestsAt, PageRests, PluginRests}
-use Rattle.np_model.specs.PagePlan.{PageControl, page_plans, page_start, is_reply, lose}
+use Rattle.np_model.specs.PagePlan.{PageControl, page_plans, page_start, may_answer, lose}
+use Rattle.np_message.specs.Kinds.{is_reply}
 use Rattle.np_model.specs.declared.script.Plugin.{Plugin}
 use Rattle.np_model.specs.PluginPlan.{PluginControl, plugin_plans, plugin_start, may_come, control_after_call, lines_of_call, reply_message}
 
@@ -88,13 +89,14 @@ LostLaw =
     ((page : Page) (p q : SideState PageControl) → RestsAt (page_plans page) [] (lose p) q → (q.sent ≡ p.sent) × (q.control.stage ≡ Ended))
     × ((page : Page) (p : SideState PageControl) (call : Outstanding) → p.control.stage ≡ Awaiting call → (q : SideState PageControl) × RestsAt (page_plans page) [] (lose p) q)
 
--- a message of the format that replies to a call of level 1
+-- a message of the format that answers a call of the page, at level 1, and gives nothing back
 pub record IsReply (m : Message) : Type 0 where
   pub level : m.depth.level ≡ 1
   pub task : m.depth.task ≡ false
-  pub kind : is_reply m.body ≡ true
+  pub kind : may_answer m.body ≡ true
+  pub bare : m.releases ≡ []
   pub format : KeepsFormat m
-  pub typed : IsTyped m.body
+  pub typed : IsTyped m
 
 -- each is such a reply
 abbrev pub AreReplies : List Message → Type 0
@@ -151,11 +153,11 @@ abbrev pub PluginOneRestLaw : Type 0
 PluginOneRestLaw = (Q : Plans PluginControl) (got : List Message) (d : PluginControl) (p q : SideState PluginControl) →
     RestsAt Q got (at_start d) p → RestsAt Q got (at_start d) q → p ≡ q
 
--- each is a call of level 1, without a task's mark, that may come after those before it
+-- each is a call of level 1, without a task's mark, that gives nothing back and may come after those before it
 abbrev pub AreCallsInTurn : Plugin → PluginControl → List Message → Type 0
 AreCallsInTurn plugin c [] = Unit {0}
 AreCallsInTurn plugin c (m ∷ messages) =
-    ((may_come c c.stage m.body ≡ true) × (is_reply m.body ≡ false) × (m.depth.level ≡ 1) × (m.depth.task ≡ false))
+    ((may_come c c.stage m.body ≡ true) × (is_reply m.body ≡ false) × (m.depth.level ≡ 1) × (m.depth.task ≡ false) × (m.releases ≡ []))
     × AreCallsInTurn plugin (control_after_call plugin c m.body) messages
 
 -- In the run of a page and a plug-in the page makes calls alone, each of which may come after those before it; those of a well-formed page are messages of the format.

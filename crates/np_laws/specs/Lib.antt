@@ -1,5 +1,6 @@
 pub mod Laws
-pub use Rattle.np_model.specs.Encoding
+pub use Rattle.np_message.specs.Encoding
+pub use Rattle.np_message.specs.Rules
 pub use Rattle.np_model.specs.Side
 pub use Rattle.np_model.specs.Run
 pub use Rattle.np_model.specs.PagePlan

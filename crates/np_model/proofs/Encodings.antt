@@ -1,7 +1,7 @@
 -- The bytes of several messages.
 use Rattle.std.proofs.Common.{◌≡◌, ℕ, List, [], ◌∷◌, ◌++◌, refl, ap, sym, ◌∙◌, append_assoc}
-use Rattle.np_model.specs.declared.message.Message.{Message}
-use Rattle.np_model.specs.Encoding.{encoding, encodings}
+use Rattle.np_message.specs.Message.{Message}
+use Rattle.np_message.specs.Encoding.{encoding, encodings}
 
 pub encodings-append : (a b : List Message) → encodings (a ++ b) ≡ encodings a ++ encodings b
 encodings-append [] b = refl

@@ -1,4 +1,4 @@
 pub mod Encodings
 pub mod StepLemmas
-pub mod NoItems
+pub mod Settled
 pub mod Paces

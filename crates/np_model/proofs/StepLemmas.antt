@@ -1,6 +1,6 @@
 -- What a plan's steps do to a side, part by part.
 use Rattle.std.proofs.Common.{◌≡◌, ℕ, List, [], ◌∷◌, ◌++◌, refl, ap, sym, ◌∙◌, append_assoc, append-nil}
-use Rattle.np_model.specs.declared.message.Message.{Message}
+use Rattle.np_message.specs.Message.{Message}
 use Rattle.np_model.specs.Side.{SideState, Micro, Control, Send, Deliver, Print, deliver, micro_step, run_steps}
 use Rattle.np_model.specs.Steps.{control_after, sent_by, printed_by}
 

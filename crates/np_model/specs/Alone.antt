@@ -1,12 +1,13 @@
 -- One side alone with the bytes that it was given. (This project's own.)
 use Rattle.std.specs.Prelude.{◌≡◌, ℕ, ◌^◌, List, ◌++◌, length, ◌⊎◌}
-use Rattle.np_model.specs.declared.message.Message.{Message}
+use Rattle.np_message.specs.Message.{Message}
 use Rattle.np_model.specs.declared.script.Page.{Page}
 use Rattle.np_model.specs.declared.script.Plugin.{Plugin}
 use Rattle.np_model.specs.declared.refusal.Rule.TheVariants.{Bytes}
 use Rattle.np_model.specs.declared.refusal.Refusal.{Refusal}
-use Rattle.np_model.specs.Encoding.{encodings, AreMessages}
-use Rattle.np_model.specs.Decoding.{Partial, front}
+use Rattle.np_message.specs.Encoding.{encodings}
+use Rattle.np_message.specs.Rules.{AreMessages}
+use Rattle.np_message.specs.Decoding.{Partial, front}
 use Rattle.np_model.specs.Refused.{RefusedBy}
 use Rattle.np_model.specs.Side.{SideState, at_start}
 use Rattle.np_model.specs.Run.{Awaits, HasEnded, Plans, endpoint_run}

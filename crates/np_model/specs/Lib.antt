@@ -1,13 +1,10 @@
 pub mod Script
-pub mod PluginScript
-pub mod Encoding
-pub mod Decoding
-pub mod Faults
 pub mod Side
 pub mod Run
 pub mod Steps
 pub mod Refused
 pub mod Journal
+pub mod Releases
 pub mod PagePlan
 pub mod PluginPlan
 pub mod HostRun
@@ -15,3 +12,8 @@ pub mod PluginRun
 pub mod Alone
 pub use Rattle.np_values.specs.Text
 pub use Rattle.np_values.specs.NpError
+pub use Rattle.np_message.specs.Message
+pub use Rattle.np_message.specs.Encoding
+pub use Rattle.np_message.specs.Kinds
+pub use Rattle.np_message.specs.Rules
+pub use Rattle.np_message.specs.Decoding

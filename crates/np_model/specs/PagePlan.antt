@@ -5,10 +5,10 @@ use Rattle.np_values.specs.declared.error.NpError.TheVariants.{NoError, ModuleLo
 use Rattle.np_model.specs.declared.script.Command.{Command}
 use Rattle.np_model.specs.declared.script.Command.TheVariants.{Create, Turn}
 use Rattle.np_model.specs.declared.script.Page.{Page}
-use Rattle.np_model.specs.declared.message.Payload.{Payload}
-use Rattle.np_model.specs.declared.message.Payload.TheVariants as payloads
-use Rattle.np_model.specs.declared.message.Depth.{Depth}
-use Rattle.np_model.specs.declared.message.Message.{Message}
+use Rattle.np_message.specs.declared.payload.Payload.{Payload}
+use Rattle.np_message.specs.declared.payload.Payload.TheVariants as payloads
+use Rattle.np_message.specs.declared.depth.Depth.{Depth}
+use Rattle.np_message.specs.Message.{Message}
 use Rattle.np_model.specs.declared.page.Outstanding.{Outstanding}
 use Rattle.np_model.specs.declared.page.Outstanding.TheVariants as calls
 use Rattle.np_model.specs.declared.page.Stage.{Stage}
@@ -18,10 +18,12 @@ use Rattle.np_model.specs.declared.page.PeerState.TheVariants.{Compatible, Incom
 use Rattle.np_model.specs.declared.page.Phase.{Phase}
 use Rattle.np_model.specs.declared.page.Phase.TheVariants.{Absent, Live, Destroying, Dead}
 use Rattle.np_model.specs.declared.refusal.Rule.TheVariants.{WrongKind, Unmatched}
-use Rattle.np_model.specs.Encoding.{kind_of, depth_byte}
+use Rattle.np_message.specs.Encoding.{kind_of, depth_byte}
 use Rattle.np_model.specs.Side.{SideState, Micro, Control, Send, Deliver, Print}
 use Rattle.np_model.specs.Run.{Pace, Acts, Awaits, HasEnded, Meeting, Accepts, Refuses, Plans}
 use Rattle.np_model.specs.Journal.{code_line, void_line, false_line}
+use Rattle.np_model.specs.Releases.{settled}
+use Rattle.np_message.specs.Kinds.{instance_of}
 
 -- where a page stands
 pub record PageControl : Type 0 where
@@ -35,9 +37,9 @@ pub record PageControl : Type 0 where
 abbrev pub page_start : Page → PageControl
 page_start page = record { commands = page.commands; number = 0; phases = []; peer = Compatible; stage = Begin }
 
--- every call of the page is made at depth 0, so its level is 1; a page has no task
+-- every call of the page is made at depth 0, so its level is 1; a page has no task, and nothing to give back
 abbrev pub at_level_1 : Payload → Message
-at_level_1 body = record { depth = record { level = 1; task = false }; body = body }
+at_level_1 body = record { depth = record { level = 1; task = false }; releases = []; body = body }
 
 -- the page makes a call, and awaits its reply
 abbrev pub calls_for : PageControl → Outstanding → Payload → List (Micro PageControl)
@@ -180,25 +182,11 @@ reply_plan c m calls.Turn payloads.Done = resumes c (void_line c.number)
 reply_plan c m calls.Shutdown payloads.Done = Accepts (Deliver ∷ (Control (record c { stage = Ended }) ∷ []))
 reply_plan c m call body = unmatched m
 
--- the instance that a call names, or 0
-abbrev pub instance_of : Payload → ℕ
-instance_of (payloads.Hello version major minor) = 0
-instance_of (payloads.New instance mode mime attributes) = instance
-instance_of (payloads.Destroy instance) = instance
-instance_of payloads.Turn = 0
-instance_of payloads.Shutdown = 0
-instance_of (payloads.Code error) = 0
-instance_of payloads.Done = 0
-
--- the kinds that a plug-in may send to this page
-abbrev pub is_reply : Payload → Bool
-is_reply (payloads.Hello version major minor) = false
-is_reply (payloads.New instance mode mime attributes) = false
-is_reply (payloads.Destroy instance) = false
-is_reply payloads.Turn = false
-is_reply payloads.Shutdown = false
-is_reply (payloads.Code error) = true
-is_reply payloads.Done = true
+-- the kinds that answer a call of this page
+abbrev pub may_answer : Payload → Bool
+may_answer (payloads.Code error) = true
+may_answer payloads.Done = true
+may_answer body = false
 
 -- the depth of the page's calls
 abbrev pub is_level_1 : Depth → Bool
@@ -209,9 +197,13 @@ abbrev pub meet_at : PageControl → Message → Stage → Meeting PageControl
 meet_at c m (Awaiting call) = if is_level_1 m.depth then reply_plan c m call m.body else unmatched m
 meet_at c m stage = unmatched m
 
--- what the page does with a message: another kind than a reply is refused first
+-- what the page does with a message: a kind that answers no call of it is refused first
+abbrev pub answer_plan : PageControl → Message → Meeting PageControl
+answer_plan c m = if may_answer m.body then meet_at c m c.stage else Refuses WrongKind (kind_of m.body) (instance_of m.body)
+
+-- behind that its releases are looked at
 abbrev pub meet_plan : PageControl → Message → Meeting PageControl
-meet_plan c m = if is_reply m.body then meet_at c m c.stage else Refuses WrongKind (kind_of m.body) (instance_of m.body)
+meet_plan c m = settled c.phases m (answer_plan c m)
 
 -- all that this page has its side do
 abbrev pub page_plans : Page → Plans PageControl

@@ -1,11 +1,10 @@
 -- What the plug-in prints and writes in the run of a page and a plug-in. (This project's own.)
-use Rattle.std.specs.Prelude.{◌≡◌, ℕ, List, ◌++◌, Some, None}
+use Rattle.std.specs.Prelude.{◌≡◌, ℕ, List, ◌++◌, None}
 use Rattle.np_model.specs.declared.script.Page.{Page}
 use Rattle.np_model.specs.declared.script.Plugin.{Plugin}
-use Rattle.np_model.specs.Script.{page_of}
 use Rattle.np_model.specs.declared.plugin.PluginStage.{PluginStage}
 use Rattle.np_model.specs.declared.plugin.PluginStage.TheVariants.{Begin, Serving, Ended}
-use Rattle.np_model.specs.Encoding.{encodings}
+use Rattle.np_message.specs.Encoding.{encodings}
 use Rattle.np_model.specs.Side.{SideState}
 use Rattle.np_model.specs.Run.{machine_run, PluginRests}
 use Rattle.np_model.specs.PagePlan.{page_plans}
@@ -21,11 +20,6 @@ abbrev pub IsListening : PluginStage → Type 0
 IsListening Begin = Unit {0}
 IsListening Serving = Unit {0}
 IsListening Ended = ⊥
-
--- the page is what some script says
-pub record IsScripted (page : Page) : Type 0 where
-  pub script : List ℕ
-  pub says : page_of script ≡ Some page
 
 -- the bytes are a prefix of the page's wire text in the run of page and plug-in
 pub record IsPageText (page : Page) (plugin : Plugin) (bytes : List ℕ) : Type 0 where

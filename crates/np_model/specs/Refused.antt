@@ -1,13 +1,13 @@
 -- Which refusal answers what stands at the front of the bytes. (This project's own.)
 use Rattle.std.specs.Prelude.{◌≡◌, ℕ}
-use Rattle.np_model.specs.declared.message.Message.{Message}
+use Rattle.np_message.specs.Message.{Message}
 use Rattle.np_model.specs.declared.refusal.Rule.{Rule}
 use Rattle.np_model.specs.declared.refusal.Rule.TheVariants as rules
 use Rattle.np_model.specs.declared.refusal.Refusal.{Refusal}
-use Rattle.np_model.specs.declared.wire.WireKind.{WireKind}
-use Rattle.np_model.specs.declared.wire.WireKind.TheVariants.{Length, Item, Rest}
-use Rattle.np_model.specs.declared.wire.WireError.{WireError}
-use Rattle.np_model.specs.Decoding.{Front, Partial, Whole, Bad}
+use Rattle.np_message.specs.declared.wire.WireKind.{WireKind}
+use Rattle.np_message.specs.declared.wire.WireKind.TheVariants.{Length, Item, Rest}
+use Rattle.np_message.specs.declared.wire.WireError.{WireError}
+use Rattle.np_message.specs.Decoding.{Front, Partial, Whole, Bad}
 use Rattle.np_model.specs.Run.{Meeting, Accepts, Refuses}
 
 -- the rule that a fault of the wire format breaks

@@ -1,7 +1,7 @@
 -- One side of the machine, and its micro steps. (This project's own.)
 -- A side's control is what its plans alone read: for the page its commands, for the plug-in its handlers.
 use Rattle.std.specs.Prelude.{ℕ, List, [], ◌∷◌, ◌++◌}
-use Rattle.np_model.specs.declared.message.Message.{Message}
+use Rattle.np_message.specs.Message.{Message}
 
 -- all that one side is and did
 pub record SideState (C : Type 0) : Type 0 where

@@ -1,6 +1,6 @@
 -- What the steps of a plan do to the control, and what they send and print. (This project's own.)
 use Rattle.std.specs.Prelude.{ℕ, List, [], ◌∷◌, ◌++◌}
-use Rattle.np_model.specs.declared.message.Message.{Message}
+use Rattle.np_message.specs.Message.{Message}
 use Rattle.np_model.specs.Side.{Micro, Control, Send, Deliver, Print}
 
 -- the control after the steps

@@ -1,3 +1,8 @@
+ghost use Rattle.std.specs.Prelude.{◌≡◌};
+ghost use Rattle.np_model.specs.Refused.{refusal_of};
+
+use np_message::{WireError, WireKind};
+
 /// The rules by which an end refuses what the other end sent, in the order in which they are tried.
 #[derive(Clone, Copy, Debug, PartialEq, Eq)]
 pub enum Rule {
@@ -21,4 +26,23 @@ pub struct Refusal {
     pub rule: Rule,
     pub first: u64,
     pub second: u64,
+}
+
+impl Refusal {
+    /// How an end refuses the bytes that have this fault.
+    pub fn of_fault(error: WireError) -> Refusal
+        ensures value { result ≡ refusal_of error }
+    {
+        let rule = match error.kind {
+            WireKind::Length => Rule::Length,
+            WireKind::Item => Rule::Item,
+            WireKind::Rest => Rule::Rest,
+        };
+        Refusal {
+            at: error.at,
+            rule,
+            first: error.first,
+            second: error.second,
+        }
+    }
 }

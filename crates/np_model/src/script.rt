@@ -12,7 +12,7 @@ pub enum Command {
 /// The commands of a page, in their order.
 pub type Commands = Seq<Command>;
 
-/// A page script: the version of the plug-in interface that the host speaks, and what the page does.
+/// A page as it is served: the version of the plug-in interface that the host speaks, and what the page does.
 #[derive(Drop)]
 pub struct Page {
     pub major: u8,
@@ -20,7 +20,7 @@ pub struct Page {
     pub commands: Commands,
 }
 
-/// A plug-in script: the version of the plug-in interface that the plug-in speaks, and its handler.
+/// A plug-in as it is served: the version of the plug-in interface that it speaks, and its handler.
 #[derive(Clone, Copy, Debug, PartialEq, Eq)]
 pub struct Plugin {
     pub major: u8,

@@ -3,7 +3,7 @@ use Rattle.std.proofs.Common.{◌≡◌, ℕ, ◌-◌, ◌≤◌, List, [], ◌�
 use Rattle.std.specs.List.{AllByRecursion}
 use Rattle.std.proofs.lemmas.List.{take-append-drop, append_cancel_left}
 use Rattle.np_model.specs.declared.script.Page.{Page}
-use Rattle.np_model.specs.Encoding.{encodings}
+use Rattle.np_message.specs.Encoding.{encodings}
 use Rattle.np_model.specs.declared.script.Plugin.{Plugin}
 use Rattle.np_model.specs.Script.{IsWellFormed}
 use Rattle.np_model.specs.PluginRun.{IsPageText}
@@ -12,7 +12,7 @@ use Rattle.np_ports.specs.Files.{Contents}
 use Rattle.np_model.specs.Alone.{plugin_role, WaitsAt, EndsAt, RefusesAt}
 use Rattle.np_model.proofs.Paces.{plugin-listening, plugin-ended}
 use Rattle.np_prefix.specs.PluginPrefix.{PluginWaitsLaw, PluginEndsLaw, PluginNeverRefusesLaw, PageFewBytesLaw}
-use Rattle.np_script.specs.Canonical.{PagesAreWellFormed}
+use Rattle.np_served.specs.Laws.{ServedPagesAreWellFormed}
 use Rattle.np_ending.specs.declared.ending.Ending.{Ending}
 use Rattle.np_ending.specs.declared.ending.Ending.TheVariants as endings
 use Rattle.np_exchange.specs.Session.{ReadsWell, Exchanged, Completed}
@@ -134,7 +134,7 @@ ends-refused plugin old first new sink endings.Failed e o = absurd (omega arith)
 ends-refused plugin old first new sink (endings.Refused r) e o = o
 
 -- what holds of each plug-in that ran to this status, with each page script, holds of the run of the words
-from-plugin : PagesAreWellFormed → (outcome : Page → Plugin → Known → List ℕ → Known → List ℕ → List ℕ → Type 0) (words : List (List ℕ)) (files : Option Contents) (known0 known1 : Option Known) (taken0 taken1 : Option (List ℕ)) (status : ℕ) → IsRunStatus status
+from-plugin : ServedPagesAreWellFormed → (outcome : Page → Plugin → Known → List ℕ → Known → List ℕ → List ℕ → Type 0) (words : List (List ℕ)) (files : Option Contents) (known0 known1 : Option Known) (taken0 taken1 : Option (List ℕ)) (status : ℕ) → IsRunStatus status
     → ((page : Page) (plugin : Plugin) (old : Known) (first : List ℕ) (new : Known) (sink given : List ℕ) (ending : Ending) → length page.commands ≤ 1048576 → IsWellFormed page → status ≡ status_of ending → OutcomeOf plugin ending old first new sink → new.given ≡ old.given ++ given → IsPageText page plugin given → outcome page plugin old first new sink given)
     → RunsWords words files known0 known1 taken0 taken1 status → FollowsWords outcome words files known0 known1 taken0 taken1
 from-plugin formed outcome words files known0 known1 taken0 taken1 status ran each runs = at (script_word words) runs
@@ -157,22 +157,22 @@ from-plugin formed outcome words files known0 known1 taken0 taken1 status ran ea
           ),
         )
 
-pub follows-done : PagesAreWellFormed → PluginWaitsLaw → PluginEndsLaw → (words : List (List ℕ)) (files : Option Contents) (known0 known1 : Option Known) (taken0 taken1 : Option (List ℕ)) (status : ℕ) → status ≡ 0 → RunsWords words files known0 known1 taken0 taken1 status → FollowsWords PluginDone words files known0 known1 taken0 taken1
+pub follows-done : ServedPagesAreWellFormed → PluginWaitsLaw → PluginEndsLaw → (words : List (List ℕ)) (files : Option Contents) (known0 known1 : Option Known) (taken0 taken1 : Option (List ℕ)) (status : ℕ) → status ≡ 0 → RunsWords words files known0 known1 taken0 taken1 status → FollowsWords PluginDone words files known0 known1 taken0 taken1
 follows-done formed waits ends words files known0 known1 taken0 taken1 status is runs =
     from-plugin formed PluginDone words files known0 known1 taken0 taken1 status (inl is)
     (λ page plugin old first new sink given ending short f s o e t. done-follows waits ends page plugin old first new sink given (ends-done plugin old first new sink ending (sym is ∙ s) o) f e t) runs
 
-pub follows-left : PagesAreWellFormed → PluginWaitsLaw → (words : List (List ℕ)) (files : Option Contents) (known0 known1 : Option Known) (taken0 taken1 : Option (List ℕ)) (status : ℕ) → status ≡ 5 → RunsWords words files known0 known1 taken0 taken1 status → FollowsWords PluginLeft words files known0 known1 taken0 taken1
+pub follows-left : ServedPagesAreWellFormed → PluginWaitsLaw → (words : List (List ℕ)) (files : Option Contents) (known0 known1 : Option Known) (taken0 taken1 : Option (List ℕ)) (status : ℕ) → status ≡ 5 → RunsWords words files known0 known1 taken0 taken1 status → FollowsWords PluginLeft words files known0 known1 taken0 taken1
 follows-left formed waits words files known0 known1 taken0 taken1 status is runs =
     from-plugin formed PluginLeft words files known0 known1 taken0 taken1 status (inr (inl is))
     (λ page plugin old first new sink given ending short f s o e t. left-follows waits page plugin old first new sink given (ends-left plugin old first new sink ending (sym is ∙ s) o) f e t) runs
 
-pub follows-broken : PagesAreWellFormed → PluginWaitsLaw → PluginEndsLaw → (words : List (List ℕ)) (files : Option Contents) (known0 known1 : Option Known) (taken0 taken1 : Option (List ℕ)) (status : ℕ) → status ≡ 6 → RunsWords words files known0 known1 taken0 taken1 status → FollowsWords PluginBroken words files known0 known1 taken0 taken1
+pub follows-broken : ServedPagesAreWellFormed → PluginWaitsLaw → PluginEndsLaw → (words : List (List ℕ)) (files : Option Contents) (known0 known1 : Option Known) (taken0 taken1 : Option (List ℕ)) (status : ℕ) → status ≡ 6 → RunsWords words files known0 known1 taken0 taken1 status → FollowsWords PluginBroken words files known0 known1 taken0 taken1
 follows-broken formed waits ends words files known0 known1 taken0 taken1 status is runs =
     from-plugin formed PluginBroken words files known0 known1 taken0 taken1 status (inr (inr (inl is)))
     (λ page plugin old first new sink given ending short f s o e t. broken-follows waits ends page plugin old first new sink given (ends-broken plugin old first new sink ending (sym is ∙ s) o) f e t) runs
 
-pub follows-refused : PagesAreWellFormed → PluginNeverRefusesLaw → PageFewBytesLaw → (words : List (List ℕ)) (files : Option Contents) (known0 known1 : Option Known) (taken0 taken1 : Option (List ℕ)) (status : ℕ) → status ≡ 7 → RunsWords words files known0 known1 taken0 taken1 status → FollowsWords PluginRefused words files known0 known1 taken0 taken1
+pub follows-refused : ServedPagesAreWellFormed → PluginNeverRefusesLaw → PageFewBytesLaw → (words : List (List ℕ)) (files : Option Contents) (known0 known1 : Option Known) (taken0 taken1 : Option (List ℕ)) (status : ℕ) → status ≡ 7 → RunsWords words files known0 known1 taken0 taken1 status → FollowsWords PluginRefused words files known0 known1 taken0 taken1
 follows-refused formed never few words files known0 known1 taken0 taken1 status is runs =
     from-plugin formed PluginRefused words files known0 known1 taken0 taken1 status (inr (inr (inr is)))
     (λ page plugin old first new sink given ending short f s o e t. never-refused never few page plugin old first new sink given short (ends-refused plugin old first new sink ending (sym is ∙ s) o) f e t) runs

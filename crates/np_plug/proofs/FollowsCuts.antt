@@ -3,11 +3,11 @@ use Rattle.std.proofs.Common.{◌≡◌, ℕ, ◌≤◌, List, ◌++◌, length,
 use Rattle.np_model.specs.declared.script.Page.{Page}
 use Rattle.np_model.specs.declared.script.Plugin.{Plugin}
 use Rattle.np_model.specs.Script.{IsWellFormed}
-use Rattle.np_model.specs.Encoding.{encodings}
+use Rattle.np_message.specs.Encoding.{encodings}
 use Rattle.np_model.specs.PluginRun.{IsPageText}
 use Rattle.np_ports.specs.Peer.{Known}
 use Rattle.np_ports.specs.Files.{Contents}
-use Rattle.np_script.specs.Canonical.{PagesAreWellFormed}
+use Rattle.np_served.specs.Laws.{ServedPagesAreWellFormed}
 use Rattle.np_model.specs.Alone.{plugin_role, ComesTo}
 use Rattle.np_prefix.specs.PluginPrefix.{PluginWaitsLaw, PluginEndsLaw, PluginBeginsLaw, PluginComesToRestLaw, PluginNeverRefusesLaw, PageFewBytesLaw}
 use Rattle.np_ending.specs.declared.ending.Ending.{Ending}
@@ -21,7 +21,7 @@ use Rattle.np_plug.proofs.Follows.{exchange-follows, same-given, done-follows, l
 
 -- the laws that are used
 pub record RunLaws : Type 0 where
-  pub formed : PagesAreWellFormed
+  pub formed : ServedPagesAreWellFormed
   pub waits : PluginWaitsLaw
   pub ends : PluginEndsLaw
   pub begins : PluginBeginsLaw

@@ -7,3 +7,5 @@ pub use Rattle.np_exchange.specs.Closing
 pub use Rattle.np_ending.specs.Causes
 pub use Rattle.np_ending.specs.PeerCauses
 pub use Rattle.np_ending.specs.Status
+pub use Rattle.np_ending.specs.ScriptLines
+pub use Rattle.np_served.specs.Served

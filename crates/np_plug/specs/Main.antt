@@ -4,14 +4,14 @@ use Rattle.std.specs.List.{AllByRecursion}
 use Rattle.np_model.specs.declared.script.Page.{Page}
 use Rattle.np_model.specs.declared.script.Plugin.{Plugin}
 use Rattle.np_model.specs.declared.plugin.PluginStage.TheVariants.{Ended}
-use Rattle.np_model.specs.PluginScript.{plugin_of}
-use Rattle.np_model.specs.Encoding.{encodings}
+use Rattle.np_message.specs.Encoding.{encodings}
 use Rattle.np_model.specs.Side.{SideState}
 use Rattle.np_model.specs.PluginPlan.{PluginControl}
-use Rattle.np_model.specs.PluginRun.{PluginRestsIn, IsListening, IsScripted, IsPageText}
+use Rattle.np_model.specs.PluginRun.{PluginRestsIn, IsListening, IsPageText}
 use Rattle.np_model.specs.Journal.{end_line}
 use Rattle.np_ports.specs.Peer.{Known}
 use Rattle.np_ports.specs.Files.{Contents}
+use Rattle.np_served.specs.Served.{SaysPage, SaysPlugin}
 use Rattle.np_prefix.specs.Prefix.{IsWhole}
 use Rattle.np_plug.specs.Plug.{script_word, OfScript}
 use Rattle.np_ending.specs.Causes.{BeginsWith}
@@ -87,6 +87,11 @@ PluginCut page plugin old first new sink given =
     ⊎ ((whole : List ℕ) × (part : BeginsWith whole sink) × (0 < length part.rest) × BeginsWith sink first
     × (PluginDone page plugin old first new whole given ⊎ (PluginLeft page plugin old first new whole given ⊎ PluginBroken page plugin old first new whole given)))
 
+-- some script is served as this page
+pub record IsScripted (page : Page) : Type 0 where
+  pub script : List ℕ
+  pub says : SaysPage script page
+
 -- this holds for each page script whose wire text in the run of both begins with the bytes that the peer gave
 abbrev pub ForEachPage : (Page → Plugin → Known → List ℕ → Known → List ℕ → List ℕ → Type 0) → Plugin → Known → List ℕ → Known → List ℕ → Type 0
 ForEachPage outcome plugin old first new sink = (page : Page) (given : List ℕ) → IsScripted page → new.given ≡ old.given ++ given → IsPageText page plugin given → outcome page plugin old first new sink given
@@ -95,7 +100,7 @@ ForEachPage outcome plugin old first new sink = (page : Page) (given : List ℕ)
 abbrev pub FollowsScript : (Page → Plugin → Known → List ℕ → Known → List ℕ → List ℕ → Type 0) → List ℕ → Option Contents → Option Known → Option Known → Option (List ℕ) → Option (List ℕ) → Type 0
 FollowsScript outcome name files known0 known1 taken0 taken1 =
     (f : Contents) (old : Known) (first : List ℕ) → files ≡ Some f → known0 ≡ Some old → taken0 ≡ Some first →
-    (plugin : Plugin) × (plugin_of (f name) ≡ Some plugin)
+    (plugin : Plugin) × SaysPlugin (f name) plugin
     × ((new : Known) × (sink : List ℕ) × (known1 ≡ Some new) × (taken1 ≡ Some sink) × ForEachPage outcome plugin old first new sink)
 
 abbrev pub FollowsWords : (Page → Plugin → Known → List ℕ → Known → List ℕ → List ℕ → Type 0) → List (List ℕ) → Option Contents → Option Known → Option Known → Option (List ℕ) → Option (List ℕ) → Type 0

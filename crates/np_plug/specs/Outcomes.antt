@@ -2,7 +2,7 @@
 use Rattle.std.specs.Prelude.{◌≡◌, ℕ, ◌^◌, ◌<◌, List, ◌++◌, ◌⊎◌, length}
 use Rattle.np_model.specs.declared.script.Plugin.{Plugin}
 use Rattle.np_model.specs.declared.refusal.Refusal.{Refusal}
-use Rattle.np_model.specs.Encoding.{encodings}
+use Rattle.np_message.specs.Encoding.{encodings}
 use Rattle.np_model.specs.Side.{SideState}
 use Rattle.np_model.specs.PluginPlan.{PluginControl}
 use Rattle.np_model.specs.Journal.{end_line, refused_line}

@@ -2,7 +2,8 @@
 use Rattle.std.specs.Prelude.{◌≡◌, ℕ, ◌^◌, ◌<◌, List, [], ◌∷◌, ◌++◌, ◌⊎◌, length, map, String, string_bytes, Option, Some, None}
 use Rattle.std.specs.Global.{Global}
 use Rattle.np_model.specs.declared.script.Plugin.{Plugin}
-use Rattle.np_model.specs.PluginScript.{plugin_of}
+use Rattle.np_values.specs.declared.name.Side.TheVariants as sides
+use Rattle.np_grammar.specs.Refusals.{FirstError}
 use Rattle.np_model.specs.Journal.{end_line}
 use Rattle.np_ports.specs.Peer.{Known}
 use Rattle.np_ports.specs.Files.{Contents}
@@ -12,6 +13,8 @@ use Rattle.np_model.specs.Alone.{plugin_role, RefusesNothing}
 use Rattle.np_ending.specs.declared.ending.Ending.{Ending}
 use Rattle.np_ending.specs.Causes.{Adds, BeginsWith}
 use Rattle.np_ending.specs.Status.{status_of, IsRunStatus}
+use Rattle.np_ending.specs.ScriptLines.{ScriptRefusal, OfError, Unbuilt, refusal_line, IsEarlyLine}
+use Rattle.np_served.specs.Served.{SaysPlugin, IsUnbuiltPlugin}
 use Rattle.np_plug.specs.Outcomes.{OutcomeOf}
 
 abbrev pub texts : List (String Global) → List (List ℕ)
@@ -28,31 +31,36 @@ script_word (script ∷ notes ∷ word ∷ words) = None
 abbrev pub RunsPlugin : List ℕ → Option Contents → Option Known → Option Known → Option (List ℕ) → Option (List ℕ) → ℕ → Type 0
 RunsPlugin name files known0 known1 taken0 taken1 status =
     IsRunStatus status → (f : Contents) (old : Known) (first : List ℕ) → files ≡ Some f → known0 ≡ Some old → taken0 ≡ Some first →
-    (plugin : Plugin) × (ending : Ending) × (plugin_of (f name) ≡ Some plugin) × (status ≡ status_of ending)
+    (plugin : Plugin) × (ending : Ending) × SaysPlugin (f name) plugin × (status ≡ status_of ending)
     × ((new : Known) × (sink : List ℕ) × (known1 ≡ Some new) × (taken1 ≡ Some sink) × OutcomeOf plugin ending old first new sink)
 
 -- Where the files, the peer and the sink tell: the plug-in of the file refuses nothing of the bytes that the peer gave, and at 5 these were fewer than are ever read.
 abbrev pub RunsUnrefused : List ℕ → Option Contents → Option Known → Option Known → Option (List ℕ) → ℕ → Type 0
 RunsUnrefused name files known0 known1 taken0 status =
     (f : Contents) (old : Known) (first : List ℕ) → files ≡ Some f → known0 ≡ Some old → taken0 ≡ Some first →
-    (plugin : Plugin) × (new : Known) × (got : List ℕ) × (plugin_of (f name) ≡ Some plugin) × (known1 ≡ Some new) × (new.given ≡ old.given ++ got)
+    (plugin : Plugin) × (new : Known) × (got : List ℕ) × SaysPlugin (f name) plugin × (known1 ≡ Some new) × (new.given ≡ old.given ++ got)
     × RefusesNothing (plugin_role plugin) got × (status ≡ 5 → length got < 2 ^ 40)
 
--- at 3 and 4 the peer was not called, and the end line alone was printed
+-- why bytes aren't served as a plug-in: their first error, or a line that isn't served yet
+abbrev pub IsRefusedPlugin : List ℕ → ScriptRefusal → Type 0
+IsRefusedPlugin bytes (OfError e) = FirstError sides.Plug bytes e
+IsRefusedPlugin bytes Unbuilt = IsUnbuiltPlugin bytes
+
+-- At 3 and 4 the peer was not called, and one line alone was printed: at 4 the end line, at 3 that of a script that isn't served.
 abbrev pub StopsEarly : Option Known → Option Known → Option (List ℕ) → Option (List ℕ) → ℕ → Type 0
-StopsEarly known0 known1 taken0 taken1 status = (status ≡ 3) ⊎ (status ≡ 4) → (known1 ≡ known0) × Adds taken0 taken1 (end_line status)
+StopsEarly known0 known1 taken0 taken1 status = (status ≡ 3) ⊎ (status ≡ 4) → (known1 ≡ known0) × ((line : List ℕ) × IsEarlyLine status line × Adds taken0 taken1 line)
 
--- The end line of this status was due before the plug-in began: 3 where the file has none, 4 where the file failed.
-abbrev pub IsDueEarly : Option Plugin → Type 0 → ℕ → Type 0
-IsDueEarly file file_failed status = ((status ≡ 3) × (file ≡ None)) ⊎ ((status ≡ 4) × file_failed)
+-- This line was due before the plug-in began: that of a file that isn't served, or the end line of 4 where the file failed.
+abbrev pub IsDueEarly : List ℕ → Type 0 → List ℕ → Type 0
+IsDueEarly content file_failed line = ((r : ScriptRefusal) × IsRefusedPlugin content r × (line ≡ refusal_line r)) ⊎ ((line ≡ end_line 4) × file_failed)
 
--- Statuses 8 and 10 before the plug-in began: a part of the end line that was due was printed, and not all, or nothing was; the peer was not called.
-pub record CutEarly (file : Option Plugin) (file_failed : Type 0) (old : Known) (first : List ℕ) (new : Known) (sink : List ℕ) : Type 0 where
-  pub status : ℕ
+-- Statuses 8 and 10 before the plug-in began: a part of the line that was due was printed, and not all, or nothing was; the peer was not called.
+pub record CutEarly (content : List ℕ) (file_failed : Type 0) (old : Known) (first : List ℕ) (new : Known) (sink : List ℕ) : Type 0 where
+  pub whole : List ℕ
   pub line : List ℕ
-  pub due : (line ≡ []) ⊎ IsDueEarly file file_failed status
+  pub due : (line ≡ []) ⊎ IsDueEarly content file_failed whole
   pub uncalled : new ≡ old
-  pub line_part : BeginsWith (end_line status) line
+  pub line_part : BeginsWith whole line
   pub unfinished : 0 < length line_part.rest
   pub printed : sink ≡ first ++ line
 
@@ -61,15 +69,15 @@ abbrev pub RunCut : (Plugin → Known → List ℕ → Known → List ℕ → Ty
 RunCut outcome name file_failed files known0 known1 taken0 taken1 =
     (f : Contents) (old : Known) (first : List ℕ) → files ≡ Some f → known0 ≡ Some old → taken0 ≡ Some first →
     (new : Known) × (sink : List ℕ) × (known1 ≡ Some new) × (taken1 ≡ Some sink)
-    × (CutEarly (plugin_of (f name)) file_failed old first new sink ⊎ ((plugin : Plugin) × (plugin_of (f name) ≡ Some plugin) × outcome plugin old first new sink))
+    × (CutEarly (f name) file_failed old first new sink ⊎ ((plugin : Plugin) × SaysPlugin (f name) plugin × outcome plugin old first new sink))
 
--- where the files tell, the named one isn't in the grammar
-abbrev pub IsNoPlugin : List ℕ → Option Contents → Type 0
-IsNoPlugin name files = (f : Contents) → files ≡ Some f → plugin_of (f name) ≡ None
+-- where the files tell, the named one isn't served, and the line for that alone was printed
+abbrev pub RefusesPlugin : List ℕ → Option Contents → Option (List ℕ) → Option (List ℕ) → Type 0
+RefusesPlugin name files taken0 taken1 = (f : Contents) → files ≡ Some f → (r : ScriptRefusal) × IsRefusedPlugin (f name) r × Adds taken0 taken1 (refusal_line r)
 
--- a file that isn't in the grammar gives 3, unless it can't be read
-abbrev pub OnlyNoPlugin : List ℕ → Option Contents → ℕ → Type 0
-OnlyNoPlugin name files status = (f : Contents) → files ≡ Some f → plugin_of (f name) ≡ None → (status ≡ 3) ⊎ (status ≡ 4)
+-- a file that isn't served gives 3, unless it can't be read
+abbrev pub OnlyRefused : List ℕ → Option Contents → ℕ → Type 0
+OnlyRefused name files status = (f : Contents) → files ≡ Some f → (r : ScriptRefusal) → IsRefusedPlugin (f name) r → (status ≡ 3) ⊎ (status ≡ 4)
 
 -- the files stay as they were
 abbrev pub KeepsFiles : Option Contents → Option Contents → Type 0
@@ -104,11 +112,11 @@ UnrefusedWords words files known0 known1 taken0 status = OfScript (script_word w
 abbrev pub CutWords : (Plugin → Known → List ℕ → Known → List ℕ → Type 0) → List (List ℕ) → Type 0 → Option Contents → Option Known → Option Known → Option (List ℕ) → Option (List ℕ) → Type 0
 CutWords outcome words file_failed files known0 known1 taken0 taken1 = OfScript (script_word words) (λ name. RunCut outcome name file_failed files known0 known1 taken0 taken1) ⊥
 
-abbrev pub IsNoScript : List (List ℕ) → Option Contents → Type 0
-IsNoScript words files = OfScript (script_word words) (λ name. IsNoPlugin name files) ⊥
+abbrev pub RefusesScript : List (List ℕ) → Option Contents → Option (List ℕ) → Option (List ℕ) → Type 0
+RefusesScript words files taken0 taken1 = OfScript (script_word words) (λ name. RefusesPlugin name files taken0 taken1) ⊥
 
-abbrev pub OnlyNoScript : List (List ℕ) → Option Contents → ℕ → Type 0
-OnlyNoScript words files status = OfScript (script_word words) (λ name. OnlyNoPlugin name files status) (Unit {0})
+abbrev pub OnlyRefusedScript : List (List ℕ) → Option Contents → ℕ → Type 0
+OnlyRefusedScript words files status = OfScript (script_word words) (λ name. OnlyRefused name files status) (Unit {0})
 
 abbrev pub NotesWordsOnly : List (List ℕ) → Option (List (List ℕ × FileCall)) → Option (List (List ℕ × FileCall)) → Type 0
 NotesWordsOnly words old new = OfScript (script_word words) (λ name. NotesScriptOnly name old new) ((l : List (List ℕ × FileCall)) → old ≡ Some l → new ≡ Some l)

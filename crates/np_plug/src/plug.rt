@@ -3,19 +3,19 @@
 ghost use Rattle.std.specs.Prelude.{◌≡◌, ◌<◌, ◌⊎◌, ◌↔◌, ◌≢◌, length, map, string_bytes, IfOk, OnOk, OnErr, Some, None, true};
 ghost use Rattle.np_ports.specs.Causes.{Rose};
 ghost use Rattle.np_ending.specs.Causes.{SinkCause};
-ghost use Rattle.np_plug.specs.Plug.{texts, script_word, RunsPlugin, RunCut, CutWords, RunsWords, UnrefusedWords, StopsEarly, IsNoPlugin, IsNoScript, OnlyNoPlugin, OnlyNoScript, KeepsFiles, NotesScriptOnly, NotesWordsOnly, IsIdle, IsCutShort, IsEndStatus};
+ghost use Rattle.np_plug.specs.Plug.{texts, script_word, RunsPlugin, RunCut, CutWords, RunsWords, UnrefusedWords, StopsEarly, RefusesPlugin, RefusesScript, OnlyRefused, OnlyRefusedScript, KeepsFiles, NotesScriptOnly, NotesWordsOnly, IsIdle, IsCutShort, IsEndStatus};
 ghost use Rattle.np_exchange.specs.Closing.{IsUnrefusedStatus};
 ghost use Rattle.np_plug.specs.Outcomes.{CutShort};
 ghost use Rattle.np_plug.specs.Main.{FollowsWords, ForEachPage, PluginDone, PluginLeft, PluginBroken, PluginRefused, PluginCut};
 
 use crate::session::session;
-use np_ending::{Stop, finish};
+use np_ending::{Stop, finish, finish_script, finish_unbuilt};
 use np_ports::{Files, Peer, PortError, Sink};
 use np_prefix::{
     page_few_bytes_law, plugin_begins_law, plugin_comes_to_rest_law, plugin_ends_law,
     plugin_never_refuses_law, plugin_waits_law, rests_unrefused_law,
 };
-use np_script::{pages_are_well_formed, parse_plugin};
+use np_served::{Unserved, serve_plugin, served_pages_are_well_formed};
 use np_transfer::read_script;
 use std::alloc::Global;
 
@@ -30,8 +30,8 @@ fn run<P: Peer, F: Files, O: Sink>(
     ensures runs { IfOk result (λ status. RunsPlugin name.now (F.contents files.old) (P.known peer.old) (P.known peer.new) (O.taken notes.old) (O.taken notes.new) status) }
     ensures cut { OnErr result (RunCut (CutShort (Rose (P.pipe_faults peer.old) (P.pipe_faults peer.new)) (P.has_ended peer.new ≡ true)) name.now (Rose (F.faults files.old) (F.faults files.new)) (F.contents files.old) (P.known peer.old) (P.known peer.new) (O.taken notes.old) (O.taken notes.new)) }
     ensures early { IfOk result (λ status. StopsEarly (P.known peer.old) (P.known peer.new) (O.taken notes.old) (O.taken notes.new) status) }
-    ensures script { IfOk result (λ status. status ≡ 3 → IsNoPlugin name.now (F.contents files.old)) }
-    ensures script_only { IfOk result (λ status. OnlyNoPlugin name.now (F.contents files.old) status) }
+    ensures script { IfOk result (λ status. status ≡ 3 → RefusesPlugin name.now (F.contents files.old) (O.taken notes.old) (O.taken notes.new)) }
+    ensures script_only { IfOk result (λ status. OnlyRefused name.now (F.contents files.old) status) }
     ensures listed { IfOk result (λ status. IsEndStatus status) }
     ensures usage { IfOk result (λ status. status ≢ 2) }
     ensures output { IfOk result (λ status. status ≢ 10) }
@@ -48,9 +48,11 @@ fn run<P: Peer, F: Files, O: Sink>(
         Err(PortError::Failed) => return finish(alloc, notes, 4),
         Err(PortError::NoMemory) => return Err(Stop::NoMemory),
     };
-    let plugin = match parse_plugin(&bytes) {
+    let plugin = match serve_plugin(alloc, &bytes) {
         Ok(plugin) => plugin,
-        Err(_) => return finish(alloc, notes, 3),
+        Err(Unserved::Script(error)) => return finish_script(alloc, notes, error),
+        Err(Unserved::Unbuilt) => return finish_unbuilt(notes),
+        Err(Unserved::NoMemory) => return Err(Stop::NoMemory),
     };
     let status = session(alloc, plugin, peer, notes)?;
     Ok(status)
@@ -93,8 +95,8 @@ pub fn plug_main<P: Peer, F: Files, O: Sink>(
 
     // The statuses, and the cause of each.
     ensures listed { IsEndStatus result ⊎ IsCutShort result }
-    ensures script { result ≡ 3 → IsNoScript (texts words.now) (F.contents files.old) }
-    ensures script_only { IsCutShort result ⊎ OnlyNoScript (texts words.now) (F.contents files.old) result }
+    ensures script { result ≡ 3 → RefusesScript (texts words.now) (F.contents files.old) (O.taken notes.old) (O.taken notes.new) }
+    ensures script_only { IsCutShort result ⊎ OnlyRefusedScript (texts words.now) (F.contents files.old) result }
     ensures file { result ≡ 4 → Rose (F.faults files.old) (F.faults files.new) }
     ensures ended { result ≡ 5 → P.has_ended peer.new ≡ true }
     ensures pipe { result ≡ 6 → Rose (P.pipe_faults peer.old) (P.pipe_faults peer.new) }
@@ -112,7 +114,7 @@ pub fn plug_main<P: Peer, F: Files, O: Sink>(
     plugin_never_refuses_law();
     rests_unrefused_law();
     page_few_bytes_law();
-    pages_are_well_formed();
+    served_pages_are_well_formed();
     let [script, _] = words else {
         return 2;
     };

@@ -168,6 +168,9 @@ fn the_page_ends(rt: HostRuntime) -> Result<(), Fail> {
     Ok(())
 }
 
+/// A Turn that gives back a reference of instance 1.
+const RELEASING: &[u8] = &[0, 0, 0, 13, 5, 1, 0, 1, 1, 0, 0, 0, 7, 0, 0, 0, 1];
+
 #[test]
 fn the_page_is_refused(rt: HostRuntime) -> Result<(), Fail> {
     let alloc = rt.alloc();
@@ -194,6 +197,12 @@ fn the_page_is_refused(rt: HostRuntime) -> Result<(), Fail> {
             [hello, [0, 0, 0, 4, 5, 0x81, 0, 0].as_slice(), &[]],
             "end 7 at 11 place 129 0\n",
         ),
+        (
+            [hello, [0, 0, 0, 5, 4, 1, 0, 0, 1].as_slice(), &[]],
+            "end 7 at 11 wrong-kind 4 1\n",
+        ),
+        ([hello, new, RELEASING], "end 7 at 27 unknown 1 7\n"),
+        ([hello, RELEASING, &[]], "end 7 at 11 unknown 1 7\n"),
         (
             [hello, [0, 0, 0, 3].as_slice(), &[]],
             "end 7 at 11 length 3 32768\n",
@@ -269,7 +278,7 @@ fn refused_command_lines(rt: HostRuntime) -> Result<(), Fail> {
         (["--", "s", "n"].as_slice(), 2, ""),
         (["none", "n"].as_slice(), 4, "end 4\n"),
         (["--", "n"].as_slice(), 4, "end 4\n"),
-        (["s", "n"].as_slice(), 3, "end 3\n"),
+        (["s", "n"].as_slice(), 3, "end 3 line 1 form\n"),
     ] {
         let mut files = MemFiles::new(alloc, entries(alloc, "plugin 0\n")?, Vec::new(alloc));
         let mut notes = SureSink::new(alloc);
@@ -277,6 +286,26 @@ fn refused_command_lines(rt: HostRuntime) -> Result<(), Fail> {
         let words = words(alloc, texts)?;
         let status = plug_main(alloc, &words, &mut peer, &mut files, &mut notes);
         assert_eq!(rt; status, want);
+        assert_eq!(rt; notes.bytes(), noted.as_bytes());
+        assert_eq!(rt; peer.taken(), b"".as_slice());
+    }
+    Ok(())
+}
+
+/// A script that isn't served yet, one that is none in its second line, and one that has no line.
+#[test]
+fn scripts_that_are_not_served(rt: HostRuntime) -> Result<(), Fail> {
+    let alloc = rt.alloc();
+    for (script, noted) in [
+        ("plugin 0 27\nclass \"C\" 1\nendclass\n", "end 3 unbuilt\n"),
+        (
+            "plugin 0 27\nhandler old\nreturn 0\nend\n",
+            "end 3 line 2 form\n",
+        ),
+        ("# nothing\n", "end 3 line 2 end\n"),
+    ] {
+        let (status, notes, peer) = outcome(alloc, script, &MESSAGES, false)?;
+        assert_eq!(rt; status, 3);
         assert_eq!(rt; notes.bytes(), noted.as_bytes());
         assert_eq!(rt; peer.taken(), b"".as_slice());
     }

@@ -1,13 +1,10 @@
 -- How the private calls of an end carry on what it stands for.
-use Rattle.std.proofs.Common.{◌≡◌, ◌<◌, ◌≤◌, ◌++◌, ℕ, [], length, false, Some, refl, ap, sym, ◌∙◌, subst, arith, length-append, ◌⊎◌, inl, inr}
-use Rattle.np_model.specs.declared.message.Message.{Message}
-use Rattle.np_model.specs.declared.refusal.Refusal.{Refusal}
+use Rattle.std.proofs.Common.{◌≡◌, false, Some, refl, ap, sym, ◌∙◌, subst, ◌⊎◌, inl, inr}
 use Rattle.np_model.specs.declared.script.Plugin.{Plugin}
 use Rattle.np_model.specs.declared.plugin.PluginStage.{PluginStage}
 use Rattle.np_model.specs.declared.plugin.PluginStage.TheVariants.{Begin, Serving, Ended}
 use Rattle.np_model.specs.Side.{at_start}
-use Rattle.np_model.specs.Encoding.{encoding}
-use Rattle.np_model.specs.Decoding.{front}
+use Rattle.np_message.specs.Decoding.{front}
 use Rattle.np_model.specs.Run.{Awaits, HasEnded}
 use Rattle.np_model.specs.PluginPlan.{PluginControl, plugin_pace, plugin_meet, serve_plan}
 use Rattle.np_model.specs.PluginRun.{IsListening}

@@ -1,11 +1,12 @@
 -- What the private calls of a plug-in end do.
-use Rattle.std.specs.Prelude.{◌≡◌, ◌+◌, ℕ, List, ◌++◌, length, drop, ◌⊎◌, Option, Some, None}
+use Rattle.std.specs.Prelude.{◌≡◌, ◌+◌, ℕ, List, ◌++◌, length, drop, true, ◌⊎◌, Option, Some, None}
 use Rattle.np_model.specs.declared.script.Plugin.{Plugin}
-use Rattle.np_model.specs.declared.message.Message.{Message}
+use Rattle.np_message.specs.Message.{Message}
 use Rattle.np_model.specs.declared.refusal.Refusal.{Refusal}
-use Rattle.np_model.specs.Encoding.{encoding, encodings, KeepsFormat, IsTyped}
-use Rattle.np_model.specs.Decoding.{Partial, Whole, front}
-use Rattle.np_wire.specs.Reading.{BeginsNew}
+use Rattle.np_message.specs.Encoding.{encoding, encodings}
+use Rattle.np_message.specs.Rules.{KeepsFormat, IsTyped}
+use Rattle.np_message.specs.Decoding.{Partial, Whole, front}
+use Rattle.np_decode.specs.Reading.{needs_memory}
 use Rattle.np_model.specs.Side.{Micro}
 use Rattle.np_model.specs.Run.{Accepts, Refuses}
 use Rattle.np_model.specs.PluginPlan.{PluginControl, serve_plan, plugin_meet}
@@ -44,7 +45,7 @@ pub record Listens (old new : Core) : Type 0 where
   pub message : Message
   pub bytes : old.feed.left ≡ encoding message ++ new.feed.left
   pub keeps : KeepsFormat message
-  pub typed : IsTyped message.body
+  pub typed : IsTyped message
   pub consumed : new.feed.consumed + length new.feed.left ≡ old.feed.consumed + length old.feed.left
   pub plan : plugin_meet old.plugin (control_of old) message ≡ Accepts (serve_plan old.plugin (control_of old) message)
   pub moves : Moves old new (serve_plan old.plugin (control_of old) message)
@@ -69,9 +70,9 @@ pub record IsServed (e : Core) : Type 0 where
   pub there : front e.feed.consumed e.feed.left ≡ Whole message rest
   pub plan : plugin_meet e.plugin (control_of e) message ≡ Accepts (serve_plan e.plugin (control_of e) message)
 
--- Want of memory comes in place of no refusal: it comes where the message at the front is served, or begins as an NPP_New.
+-- Want of memory comes in place of no refusal: it comes where the message at the front is served, or begins as one with texts, values, lists or releases.
 abbrev pub WantsMemory : Core → Type 0
-WantsMemory e = BeginsNew (drop 4 e.feed.left) ⊎ IsServed e
+WantsMemory e = (needs_memory (drop 4 e.feed.left) ≡ true) ⊎ IsServed e
 
 -- an end that awaits a message went on with it, or halted
 abbrev pub Listened : Core → Core → Option Halt → Type 0

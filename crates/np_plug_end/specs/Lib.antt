@@ -1,7 +1,8 @@
 pub mod Core
 pub mod PlugEnd
-pub use Rattle.np_model.specs.Encoding
-pub use Rattle.np_model.specs.Decoding
+pub use Rattle.np_message.specs.Encoding
+pub use Rattle.np_message.specs.Rules
+pub use Rattle.np_message.specs.Decoding
 pub use Rattle.np_model.specs.Side
 pub use Rattle.np_model.specs.Run
 pub use Rattle.np_model.specs.PluginPlan
@@ -10,3 +11,4 @@ pub use Rattle.np_model.specs.Alone
 pub use Rattle.np_model.specs.Steps
 pub use Rattle.np_model.specs.Refused
 pub use Rattle.np_endpoint.specs.End
+pub use Rattle.np_model.specs.Releases

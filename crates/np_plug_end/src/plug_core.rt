@@ -7,6 +7,7 @@ use std::alloc::Global;
 /// What a plug-in end keeps. Its control is what stands in `stage` and `phases`.
 #[derive(Drop)]
 pub struct Core {
+    pub alloc: Global,
     pub plugin: Plugin,
     pub stage: PluginStage,
     pub phases: Vec<Phase>,
@@ -29,6 +30,7 @@ impl Core {
         ensures journal { result.journal.items ≡ [] }
     {
         Core {
+            alloc,
             plugin,
             stage: PluginStage::Begin,
             phases: Vec::new(alloc),

@@ -3,7 +3,8 @@
 ghost use Rattle.std.specs.Prelude.{◌≡◌, ◌-◌};
 ghost use Rattle.np_model.specs.PluginPlan.{code_of_int, new_answer, phase_after, reply_to};
 
-use np_model::{Payload, Phase, Plugin};
+use np_message::Payload;
+use np_model::{Phase, Plugin};
 use np_values::NpError;
 
 // The code that a number of the handler `new` says.
@@ -53,6 +54,6 @@ pub fn reply(plugin: Plugin, call: &Payload) -> Payload
         }
         Payload::Hello { .. } | Payload::Destroy { .. } => Payload::Code(NpError::NoError),
         Payload::New { .. } => Payload::Code(answer(plugin)),
-        Payload::Turn | Payload::Shutdown | Payload::Code(_) | Payload::Done => Payload::Done,
+        _ => Payload::Done,
     }
 }

@@ -6,7 +6,7 @@ ghost use Rattle.np_model.specs.PluginRun.{IsListening};
 use crate::plug_core::Core;
 use np_endpoint::Halt;
 use np_laws::plugin_more_messages_law;
-use np_model::PluginStage;
+use np_model::{PluginStage, Refusal};
 use np_values::NoMemory;
 use np_wire::FeedError;
 
@@ -56,7 +56,7 @@ impl Core {
                 self.serve(&message)?;
                 Ok(None)
             }
-            Err(FeedError::Wire(error)) => Ok(Some(Halt::Refused(error.refusal()))),
+            Err(FeedError::Wire(error)) => Ok(Some(Halt::Refused(Refusal::of_fault(error)))),
             Err(FeedError::NoMemory) => Err(NoMemory),
         }
     }

@@ -2,12 +2,13 @@
 
 ghost use Rattle.std.specs.Prelude.{◌≡◌, ◌++◌, ◌<◌, OnOk};
 ghost use Rattle.np_model.specs.PluginPlan.{control_after_call, lines_of_call, serve_plan};
-ghost use Rattle.np_model.specs.Encoding.{KeepsFormat};
 
 use crate::lines::push_new;
 use crate::plug_core::Core;
 use crate::rules::{answer, phase, place, reply};
-use np_model::{Message, Payload, Phase, PluginStage};
+use np_message::{Message, Payload};
+use np_model::{Phase, PluginStage};
+use np_proxy::Releases;
 use np_values::NoMemory;
 use np_wire::encode;
 
@@ -16,19 +17,16 @@ impl Core {
 
     /// Serves a call: what it changes, its line, and the reply.
     pub fn serve(&mut self, message: &Message) -> Result<(), NoMemory>
-        requires format { KeepsFormat message.now }
         ensures moves { OnOk result (Moves self.old self.new
             (serve_plan self.old.plugin (control_of self.old) message.now)) }
         ensures feed { self.new.feed ≡ self.old.feed }
     {
-        let call = &message.body;
+        let call = message.body();
         self.advance(call)?;
         self.print(call)?;
-        let reply = Message {
-            depth: message.depth,
-            body: reply(self.plugin, call),
-        };
-        encode(&reply, &mut self.outgoing)
+        let reply = reply(self.plugin, call);
+        let message = Message::new(message.depth(), Releases::new(self.alloc), reply);
+        encode(&message, &mut self.outgoing)
     }
 
     // The control after a call.
@@ -47,7 +45,7 @@ impl Core {
                     self.phases[place] = Phase::Dead;
                 }
             }
-            Payload::Turn | Payload::Code(_) | Payload::Done => {}
+            _ => {}
         }
         Ok(())
     }

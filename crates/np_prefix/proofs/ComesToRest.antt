@@ -1,9 +1,10 @@
 -- A side that refuses nothing comes to rest with the whole messages of a prefix of the other side's text.
 use Rattle.std.proofs.Common.{◌≡◌, ℕ, zero, suc, ◌<◌, ◌≤◌, List, [], ◌∷◌, ◌++◌, length, drop, refl, sym, ap, subst, ◌∙◌, append_assoc, arith, ⊎_elim, Option, Some, None}
 use Rattle.std.proofs.lemmas.List.{append_cancel_left}
-use Rattle.np_model.specs.declared.message.Message.{Message}
-use Rattle.np_model.specs.Encoding.{encoding, encodings, AreMessages}
-use Rattle.np_model.specs.Decoding.{Partial, front}
+use Rattle.np_message.specs.Message.{Message}
+use Rattle.np_message.specs.Encoding.{encoding, encodings}
+use Rattle.np_message.specs.Rules.{AreMessages}
+use Rattle.np_message.specs.Decoding.{Partial, front}
 use Rattle.np_model.specs.Side.{SideState, Micro, run_steps, examine, at_start}
 use Rattle.np_model.specs.Run.{Pace, Acts, Awaits, HasEnded, Meeting, Accepts, Refuses, first, next_message, meets, listens, turn_at, turn, endpoint_run, HasNone, RestsAt}
 use Rattle.np_model.specs.Alone.{Role, MoreMessages}

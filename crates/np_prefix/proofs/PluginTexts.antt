@@ -1,12 +1,13 @@
 -- The plug-in alone with a prefix of the page's wire text.
 use Rattle.std.proofs.Common.{◌≡◌, ℕ, true, false, List, [], ◌∷◌, ◌++◌, length, refl, sym, ap, subst, ◌∙◌}
 use Rattle.std.proofs.lemmas.List.{append-nil}
-use Rattle.np_model.specs.declared.message.Message.{Message}
+use Rattle.np_message.specs.Message.{Message}
 use Rattle.np_model.specs.declared.script.Page.{Page}
 use Rattle.np_model.specs.declared.script.Plugin.{Plugin}
 use Rattle.np_model.specs.declared.plugin.PluginStage.TheVariants.{Ended}
 use Rattle.np_model.specs.Script.{IsWellFormed}
-use Rattle.np_model.specs.Encoding.{encodings, AreMessages}
+use Rattle.np_message.specs.Encoding.{encodings}
+use Rattle.np_message.specs.Rules.{AreMessages}
 use Rattle.np_model.specs.Side.{SideState, at_start}
 use Rattle.np_model.specs.Run.{HasEnded, endpoint_run, Rests, RestsAt}
 use Rattle.np_model.specs.PagePlan.{page_plans, page_start}
@@ -16,13 +17,14 @@ use Rattle.np_model.specs.Alone.{plugin_role, ComesTo, WaitsAt, EndsAt, RefusesN
 use Rattle.np_model.proofs.Paces.{plugin-ended}
 use Rattle.np_laws.specs.Laws.{AreCallsInTurn, control_after_calls, CallsLaw, PluginCutLaw, PluginMoreMessagesLaw, HonestLaw, PluginAloneLaw, PluginJournalLaw, ServesLaw}
 use Rattle.np_prefix.specs.Prefix.{IsWhole}
-use Rattle.np_prefix.proofs.Streams.{WaitsAlways, Wire, Waiting, Continues, empty-waits, begins-text}
+use Rattle.np_message_laws.specs.Laws.{WaitsExactly}
+use Rattle.np_prefix.proofs.Streams.{Wire, Waiting, Continues, empty-waits, begins-text}
 use Rattle.np_prefix.proofs.SideAlone.{waits-rests, ended-rests, rests-with-first, first-of}
 use Rattle.np_prefix.proofs.Texts.{machine}
 use Rattle.np_prefix.proofs.Unrefused.{never-refused}
 
 -- messages whose bytes stand in a prefix of the page's wire text begin those that the page sends
-begin-text : Wire → WaitsAlways → CallsLaw → (page : Page) (plugin : Plugin) (given left : List ℕ) (messages : List Message) → IsWellFormed page → (t : IsPageText page plugin given) → AreMessages messages → given ≡ encodings messages ++ left → Continues messages (machine page plugin t.rounds).page.sent (left ++ t.rest) []
+begin-text : Wire → WaitsExactly → CallsLaw → (page : Page) (plugin : Plugin) (given left : List ℕ) (messages : List Message) → IsWellFormed page → (t : IsPageText page plugin given) → AreMessages messages → given ≡ encodings messages ++ left → Continues messages (machine page plugin t.rounds).page.sent (left ++ t.rest) []
 begin-text w v calls page plugin given left messages formed t are is =
     begins-text w v messages (machine page plugin t.rounds).page.sent given left t.rest are ((calls page plugin t.rounds).1 formed) is t.text
 
@@ -34,7 +36,7 @@ rests-in-run cut page plugin rounds turns more side comes rests is =
     let r = rests-with-first (plugin_role plugin) turns (machine page plugin rounds).page.sent more side comes rests is in
     cut (page_plans page) (plugin_plans plugin) (page_start page) plugin_start rounds (length side.examined) side r.0 r.1
 
-pub plugin-waits : Wire → WaitsAlways → CallsLaw → PluginCutLaw → (page : Page) (plugin : Plugin) (given : List ℕ) (side : SideState PluginControl) → IsWellFormed page → IsPageText page plugin given → WaitsAt (plugin_role plugin) given side → PluginRestsIn page plugin (length side.examined) side × IsWhole given (length side.examined)
+pub plugin-waits : Wire → WaitsExactly → CallsLaw → PluginCutLaw → (page : Page) (plugin : Plugin) (given : List ℕ) (side : SideState PluginControl) → IsWellFormed page → IsPageText page plugin given → WaitsAt (plugin_role plugin) given side → PluginRestsIn page plugin (length side.examined) side × IsWhole given (length side.examined)
 plugin-waits w v calls cut page plugin given side formed t at =
     let c = at.comes_to in
     let b = begin-text w v calls page plugin given c.left side.examined formed t c.messages c.got_is in
@@ -64,7 +66,7 @@ ended-all calls serves page plugin rounds turns (m ∷ later) side comes ended i
     let none : false ≡ true = ap (λ stage. may_come d stage m.body) (sym over) ∙ may in
     absurd cc
 
-pub plugin-ends : Wire → WaitsAlways → CallsLaw → PluginCutLaw → ServesLaw → (page : Page) (plugin : Plugin) (given : List ℕ) (side : SideState PluginControl) → IsWellFormed page → IsPageText page plugin given → EndsAt (plugin_role plugin) given side → PluginRestsIn page plugin (length side.examined) side × IsWhole given (length side.examined)
+pub plugin-ends : Wire → WaitsExactly → CallsLaw → PluginCutLaw → ServesLaw → (page : Page) (plugin : Plugin) (given : List ℕ) (side : SideState PluginControl) → IsWellFormed page → IsPageText page plugin given → EndsAt (plugin_role plugin) given side → PluginRestsIn page plugin (length side.examined) side × IsWhole given (length side.examined)
 plugin-ends w v calls cut serves page plugin given side formed t at =
     let c = at.comes_to in
     let b = begin-text w v calls page plugin given c.left side.examined formed t c.messages c.got_is in
@@ -74,7 +76,7 @@ plugin-ends w v calls cut serves page plugin given side formed t at =
 
 -- ---- what was printed and sent
 
-pub plugin-begins : Wire → WaitsAlways → CallsLaw → PluginAloneLaw → PluginJournalLaw → (page : Page) (plugin : Plugin) (given : List ℕ) (n : ℕ) (side p : SideState PluginControl) → IsWellFormed page → IsPageText page plugin given → ComesTo (plugin_role plugin) given side → IsWhole given n → PluginRestsIn page plugin n p → ((line : List ℕ) × (p.journal ≡ side.journal ++ line)) × ((messages : List Message) × (p.sent ≡ side.sent ++ messages))
+pub plugin-begins : Wire → WaitsExactly → CallsLaw → PluginAloneLaw → PluginJournalLaw → (page : Page) (plugin : Plugin) (given : List ℕ) (n : ℕ) (side p : SideState PluginControl) → IsWellFormed page → IsPageText page plugin given → ComesTo (plugin_role plugin) given side → IsWhole given n → PluginRestsIn page plugin n p → ((line : List ℕ) × (p.journal ≡ side.journal ++ line)) × ((messages : List Message) × (p.sent ≡ side.sent ++ messages))
 plugin-begins w v calls alone journal page plugin given n side p formed t c whole rests =
     let sent = (machine page plugin t.rounds).page.sent in
     let start = at_start plugin_start in

@@ -1,10 +1,11 @@
 -- The page alone with a prefix of the plug-in's wire text.
 use Rattle.std.proofs.Common.{◌≡◌, ℕ, ◌+◌, ◌≤◌, List, [], ◌∷◌, ◌++◌, length, refl, sym, ap, subst, ◌∙◌, arith, None}
 use Rattle.std.proofs.lemmas.List.{append-nil, length-append}
-use Rattle.np_model.specs.declared.message.Message.{Message}
+use Rattle.np_message.specs.Message.{Message}
 use Rattle.np_model.specs.declared.script.Page.{Page}
 use Rattle.np_model.specs.declared.script.Plugin.{Plugin}
-use Rattle.np_model.specs.Encoding.{encodings, AreMessages}
+use Rattle.np_message.specs.Encoding.{encodings}
+use Rattle.np_message.specs.Rules.{AreMessages}
 use Rattle.np_model.specs.Side.{SideState, at_start}
 use Rattle.np_model.specs.Run.{HasEnded, Machine, endpoint_run, machine_run, Rests, RestsAt}
 use Rattle.np_model.specs.PagePlan.{PageControl, page_plans, page_start, pace_at}
@@ -14,7 +15,8 @@ use Rattle.np_model.specs.Alone.{page_role, ComesTo, WaitsAt, EndsAt, RefusesNot
 use Rattle.np_model.proofs.Paces.{page-ended}
 use Rattle.np_laws.specs.Laws.{AreReplies, CutLaw, MoreMessagesLaw, HonestLaw, JournalLaw, RepliesLaw, RoundsLaw, EndpointLaw, PacedLaw, AloneLaw, open_calls}
 use Rattle.np_prefix.specs.Prefix.{IsWhole}
-use Rattle.np_prefix.proofs.Streams.{WaitsAlways, Wire, Waiting, Continues, continues, empty-waits, begins-text}
+use Rattle.np_message_laws.specs.Laws.{WaitsExactly}
+use Rattle.np_prefix.proofs.Streams.{Wire, Waiting, Continues, continues, empty-waits, begins-text}
 use Rattle.np_prefix.proofs.SideAlone.{waits-rests, ended-rests, rests-with-first, first-of}
 use Rattle.np_prefix.proofs.Unrefused.{never-refused}
 
@@ -26,13 +28,13 @@ replies-keep [] h = tt
 replies-keep (m ∷ messages) h = ((h.0.format, h.0.typed), replies-keep messages h.1)
 
 -- messages whose bytes begin the plug-in's text begin those that it sends
-sent-begin : Wire → WaitsAlways → RepliesLaw → (page : Page) (plugin : Plugin) (given left : List ℕ) (messages : List Message) (t : IsPluginText page plugin given) → AreMessages messages → given ≡ encodings messages ++ left → Continues messages (machine page plugin t.rounds).plugin.sent (left ++ t.rest) []
+sent-begin : Wire → WaitsExactly → RepliesLaw → (page : Page) (plugin : Plugin) (given left : List ℕ) (messages : List Message) (t : IsPluginText page plugin given) → AreMessages messages → given ≡ encodings messages ++ left → Continues messages (machine page plugin t.rounds).plugin.sent (left ++ t.rest) []
 sent-begin w v replies page plugin given left messages t are is =
     let sent = (machine page plugin t.rounds).plugin.sent in
     begins-text w v messages sent given left t.rest are (replies-keep sent (replies page plugin t.rounds).0) is t.text
 
 -- the messages that the page examined begin those that the plug-in sends
-examined-begin : Wire → WaitsAlways → RepliesLaw → (page : Page) (plugin : Plugin) (given : List ℕ) (side : SideState PageControl) (t : IsPluginText page plugin given) (c : ComesTo (page_role page) given side) → Continues side.examined (machine page plugin t.rounds).plugin.sent (c.left ++ t.rest) []
+examined-begin : Wire → WaitsExactly → RepliesLaw → (page : Page) (plugin : Plugin) (given : List ℕ) (side : SideState PageControl) (t : IsPluginText page plugin given) (c : ComesTo (page_role page) given side) → Continues side.examined (machine page plugin t.rounds).plugin.sent (c.left ++ t.rest) []
 examined-begin w v replies page plugin given side t c = sent-begin w v replies page plugin given c.left side.examined t c.messages c.got_is
 
 -- ---- the page where it waits or has ended
@@ -43,7 +45,7 @@ rests-in-run cut page plugin rounds turns more side comes rests is =
     let r = rests-with-first (page_role page) turns (machine page plugin rounds).plugin.sent more side comes rests is in
     cut (page_plans page) (plugin_plans plugin) (page_start page) plugin_start rounds (length side.examined) side r.0 r.1
 
-pub waits : Wire → WaitsAlways → RepliesLaw → CutLaw → (page : Page) (plugin : Plugin) (given : List ℕ) (side : SideState PageControl) → IsPluginText page plugin given → WaitsAt (page_role page) given side → HostRests page plugin (length side.examined) side × IsWhole given (length side.examined)
+pub waits : Wire → WaitsExactly → RepliesLaw → CutLaw → (page : Page) (plugin : Plugin) (given : List ℕ) (side : SideState PageControl) → IsPluginText page plugin given → WaitsAt (page_role page) given side → HostRests page plugin (length side.examined) side × IsWhole given (length side.examined)
 waits w v replies cut page plugin given side t at =
     let c = at.comes_to in
     let b = examined-begin w v replies page plugin given side t c in
@@ -91,7 +93,7 @@ ended-all replies more_law rounds_law endpoint journal paced page plugin rounds 
     let f = ap length calls in
     nil-length more (omega (arith, few, pace, closed, e, f, length-append side.examined more, length-append m.page.sent grown.0))
 
-pub ends : Wire → WaitsAlways → RepliesLaw → CutLaw → MoreMessagesLaw → RoundsLaw → EndpointLaw → JournalLaw → PacedLaw → (page : Page) (plugin : Plugin) (given : List ℕ) (side : SideState PageControl) → IsPluginText page plugin given → EndsAt (page_role page) given side → HostRests page plugin (length side.examined) side × IsWhole given (length side.examined)
+pub ends : Wire → WaitsExactly → RepliesLaw → CutLaw → MoreMessagesLaw → RoundsLaw → EndpointLaw → JournalLaw → PacedLaw → (page : Page) (plugin : Plugin) (given : List ℕ) (side : SideState PageControl) → IsPluginText page plugin given → EndsAt (page_role page) given side → HostRests page plugin (length side.examined) side × IsWhole given (length side.examined)
 ends w v replies cut more_law rounds_law endpoint journal paced page plugin given side t at =
     let c = at.comes_to in
     let b = examined-begin w v replies page plugin given side t c in
@@ -115,7 +117,7 @@ one-whole w bytes n m a b =
 
 -- ---- what was printed and sent
 
-pub begins : Wire → WaitsAlways → RepliesLaw → AloneLaw → JournalLaw → (page : Page) (plugin : Plugin) (given : List ℕ) (n : ℕ) (side p : SideState PageControl) → IsPluginText page plugin given → ComesTo (page_role page) given side → IsWhole given n → HostRests page plugin n p → ((line : List ℕ) × (p.journal ≡ side.journal ++ line)) × ((messages : List Message) × (p.sent ≡ side.sent ++ messages))
+pub begins : Wire → WaitsExactly → RepliesLaw → AloneLaw → JournalLaw → (page : Page) (plugin : Plugin) (given : List ℕ) (n : ℕ) (side p : SideState PageControl) → IsPluginText page plugin given → ComesTo (page_role page) given side → IsWhole given n → HostRests page plugin n p → ((line : List ℕ) × (p.journal ≡ side.journal ++ line)) × ((messages : List Message) × (p.sent ≡ side.sent ++ messages))
 begins w v replies alone journal page plugin given n side p t c whole rests =
     let sent = (machine page plugin t.rounds).plugin.sent in
     let start = at_start (page_start page) in

@@ -2,11 +2,12 @@
 use Rattle.std.proofs.Common.{◌≡◌, ℕ, List, [], ◌∷◌, ◌++◌, length, drop, refl, sym, ap, subst, ◌∙◌, append_assoc, arith, ◌⊎◌, inl, inr, ⊎_elim, Some}
 use Rattle.std.proofs.Math.Seq.{drop-append_seam}
 use Rattle.std.proofs.lemmas.List.{append-nil, length-append}
-use Rattle.np_model.specs.declared.message.Message.{Message}
+use Rattle.np_message.specs.Message.{Message}
 use Rattle.np_model.specs.declared.refusal.Refusal.{Refusal}
 use Rattle.np_model.specs.declared.refusal.Rule.{Rule}
-use Rattle.np_model.specs.Encoding.{encoding, encodings, KeepsFormat, IsTyped, AreMessages}
-use Rattle.np_model.specs.Decoding.{Front, Partial, Whole, front}
+use Rattle.np_message.specs.Encoding.{encoding, encodings}
+use Rattle.np_message.specs.Rules.{KeepsFormat, IsTyped, AreMessages}
+use Rattle.np_message.specs.Decoding.{Front, Partial, Whole, front}
 use Rattle.np_model.specs.Side.{SideState, at_start}
 use Rattle.np_model.specs.Run.{Awaits, HasEnded, Meeting, Accepts, Refuses, Plans, first, next_message, meets, listens, turn, endpoint_run}
 use Rattle.np_model.specs.Refused.{RefusedMeeting, RefusedBy}
@@ -32,7 +33,7 @@ refused-by meet at r m (Accepts steps) e h = absurd h
 refused-by meet at r m (Refuses rule a b) e h = record { rule = rule; first_number = a; second_number = b; meets = e }
 
 -- where the bytes behind what the side examined begin with a message, this one is refused
-first-refused : {C : Type 0} → Wire → Waiting → (role : Role C) (p : SideState C) (left rest : List ℕ) (r : Refusal) (m : Message) → KeepsFormat m → IsTyped m.body → IsRefusal role p left r → left ≡ encoding m ++ rest → RefusesMessage (role.plans.meet p) m
+first-refused : {C : Type 0} → Wire → Waiting → (role : Role C) (p : SideState C) (left rest : List ℕ) (r : Refusal) (m : Message) → KeepsFormat m → IsTyped m → IsRefusal role p left r → left ≡ encoding m ++ rest → RefusesMessage (role.plans.meet p) m
 first-refused w v role p left rest r m keeps typed x e =
     let at = length (encodings p.examined) in
     ⊎_elim

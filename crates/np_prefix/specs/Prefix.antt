@@ -1,9 +1,10 @@
 -- The page alone with a prefix of the plug-in's wire text is the page of the one process that only the whole messages of that prefix reach.
 use Rattle.std.specs.Prelude.{◌≡◌, ℕ, ◌+◌, ◌*◌, ◌≤◌, List, ◌++◌, length, ◌⊎◌}
 use Rattle.np_model.specs.declared.script.Page.{Page}
-use Rattle.np_model.specs.declared.message.Message.{Message}
-use Rattle.np_model.specs.Encoding.{encodings, AreMessages}
-use Rattle.np_model.specs.Decoding.{Partial, front}
+use Rattle.np_message.specs.Message.{Message}
+use Rattle.np_message.specs.Encoding.{encodings}
+use Rattle.np_message.specs.Rules.{AreMessages}
+use Rattle.np_message.specs.Decoding.{Partial, front}
 use Rattle.np_model.specs.Side.{SideState}
 use Rattle.np_model.specs.PagePlan.{PageControl}
 use Rattle.np_model.specs.declared.script.Plugin.{Plugin}

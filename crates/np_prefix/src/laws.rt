@@ -6,9 +6,9 @@ ghost use Rattle.np_prefix.specs.Prefix.{NeverRefusesLaw, WaitsLaw, EndsLaw, Com
 pub fn never_refuses_law()
     ensures law { NeverRefusesLaw }
 {
-    np_wire::encoded_is_read_again();
-    np_wire::no_encoding_begins_another();
-    np_wire::partial_is_cut_short();
+    np_message_laws::encoded_is_read_again();
+    np_message_laws::no_encoding_begins_another();
+    np_message_laws::partial_is_cut_short();
     np_laws::replies_law();
     np_laws::more_messages_law();
     np_laws::honest_law();
@@ -18,9 +18,9 @@ pub fn never_refuses_law()
 pub fn waits_law()
     ensures law { WaitsLaw }
 {
-    np_wire::encoded_is_read_again();
-    np_wire::no_encoding_begins_another();
-    np_wire::partial_is_cut_short();
+    np_message_laws::encoded_is_read_again();
+    np_message_laws::no_encoding_begins_another();
+    np_message_laws::partial_is_cut_short();
     np_laws::replies_law();
     np_laws::cut_law();
 }
@@ -29,9 +29,9 @@ pub fn waits_law()
 pub fn ends_law()
     ensures law { EndsLaw }
 {
-    np_wire::encoded_is_read_again();
-    np_wire::no_encoding_begins_another();
-    np_wire::partial_is_cut_short();
+    np_message_laws::encoded_is_read_again();
+    np_message_laws::no_encoding_begins_another();
+    np_message_laws::partial_is_cut_short();
     np_laws::replies_law();
     np_laws::cut_law();
     np_laws::more_messages_law();
@@ -45,9 +45,9 @@ pub fn ends_law()
 pub fn comes_to_rest_law()
     ensures law { ComesToRestLaw }
 {
-    np_wire::encoded_is_read_again();
-    np_wire::no_encoding_begins_another();
-    np_wire::partial_is_cut_short();
+    np_message_laws::encoded_is_read_again();
+    np_message_laws::no_encoding_begins_another();
+    np_message_laws::partial_is_cut_short();
     np_laws::replies_law();
     np_laws::more_messages_law();
     np_laws::honest_law();
@@ -60,9 +60,9 @@ pub fn rests_unrefused_law()
     ensures page { RestsUnrefusedLaw PageControl }
     ensures plugin { RestsUnrefusedLaw PluginControl }
 {
-    np_wire::encoded_is_read_again();
-    np_wire::no_encoding_begins_another();
-    np_wire::partial_is_cut_short();
+    np_message_laws::encoded_is_read_again();
+    np_message_laws::no_encoding_begins_another();
+    np_message_laws::partial_is_cut_short();
     np_laws::more_messages_law();
     np_laws::plugin_more_messages_law();
 }
@@ -71,9 +71,9 @@ pub fn rests_unrefused_law()
 pub fn begins_law()
     ensures law { BeginsLaw }
 {
-    np_wire::encoded_is_read_again();
-    np_wire::no_encoding_begins_another();
-    np_wire::partial_is_cut_short();
+    np_message_laws::encoded_is_read_again();
+    np_message_laws::no_encoding_begins_another();
+    np_message_laws::partial_is_cut_short();
     np_laws::replies_law();
     np_laws::alone_law();
     np_laws::journal_law();
@@ -83,8 +83,8 @@ pub fn begins_law()
 pub fn one_whole_law()
     ensures law { OneWholeLaw }
 {
-    np_wire::encoded_is_read_again();
-    np_wire::no_encoding_begins_another();
+    np_message_laws::encoded_is_read_again();
+    np_message_laws::no_encoding_begins_another();
 }
 
 /// The plug-in's wire text is short: at most nine bytes for each call that the page may make.

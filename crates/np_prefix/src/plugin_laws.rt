@@ -4,9 +4,9 @@ ghost use Rattle.np_prefix.specs.PluginPrefix.{PluginWaitsLaw, PluginEndsLaw, Pl
 pub fn plugin_never_refuses_law()
     ensures law { PluginNeverRefusesLaw }
 {
-    np_wire::encoded_is_read_again();
-    np_wire::no_encoding_begins_another();
-    np_wire::partial_is_cut_short();
+    np_message_laws::encoded_is_read_again();
+    np_message_laws::no_encoding_begins_another();
+    np_message_laws::partial_is_cut_short();
     np_laws::calls_law();
     np_laws::plugin_more_messages_law();
     np_laws::honest_law();
@@ -16,9 +16,9 @@ pub fn plugin_never_refuses_law()
 pub fn plugin_waits_law()
     ensures law { PluginWaitsLaw }
 {
-    np_wire::encoded_is_read_again();
-    np_wire::no_encoding_begins_another();
-    np_wire::partial_is_cut_short();
+    np_message_laws::encoded_is_read_again();
+    np_message_laws::no_encoding_begins_another();
+    np_message_laws::partial_is_cut_short();
     np_laws::calls_law();
     np_laws::plugin_cut_law();
 }
@@ -27,9 +27,9 @@ pub fn plugin_waits_law()
 pub fn plugin_ends_law()
     ensures law { PluginEndsLaw }
 {
-    np_wire::encoded_is_read_again();
-    np_wire::no_encoding_begins_another();
-    np_wire::partial_is_cut_short();
+    np_message_laws::encoded_is_read_again();
+    np_message_laws::no_encoding_begins_another();
+    np_message_laws::partial_is_cut_short();
     np_laws::calls_law();
     np_laws::plugin_cut_law();
     np_laws::serves_law();
@@ -39,9 +39,9 @@ pub fn plugin_ends_law()
 pub fn plugin_comes_to_rest_law()
     ensures law { PluginComesToRestLaw }
 {
-    np_wire::encoded_is_read_again();
-    np_wire::no_encoding_begins_another();
-    np_wire::partial_is_cut_short();
+    np_message_laws::encoded_is_read_again();
+    np_message_laws::no_encoding_begins_another();
+    np_message_laws::partial_is_cut_short();
     np_laws::calls_law();
     np_laws::plugin_more_messages_law();
     np_laws::honest_law();
@@ -52,9 +52,9 @@ pub fn plugin_comes_to_rest_law()
 pub fn plugin_begins_law()
     ensures law { PluginBeginsLaw }
 {
-    np_wire::encoded_is_read_again();
-    np_wire::no_encoding_begins_another();
-    np_wire::partial_is_cut_short();
+    np_message_laws::encoded_is_read_again();
+    np_message_laws::no_encoding_begins_another();
+    np_message_laws::partial_is_cut_short();
     np_laws::calls_law();
     np_laws::plugin_alone_law();
     np_laws::plugin_journal_law();

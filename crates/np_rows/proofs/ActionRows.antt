@@ -8,7 +8,7 @@ use Rattle.np_grammar.specs.declared.action.Action.TheVariants as actions
 use Rattle.np_grammar.specs.declared.line.Field.{Field}
 use Rattle.np_grammar.specs.declared.line.Field.TheVariants.{Register, Operand as OfOperand, Integer, Number, Text, Identifier}
 use Rattle.np_grammar.specs.Rows.{action_line}
-use Rattle.np_rows.specs.Takes.{operand_in, all_of, all_ranges}
+use Rattle.np_fields.specs.Takes.{operand_in, all_of, all_ranges}
 use Rattle.np_rows.proofs.Taken.{bound, operands_were, ranges_were, RowWas}
 use Rattle.np_rows.specs.Actions.{set_of, drop_of, invoke_of, call_default_of, construct_of, get_of, put_of, remove_of, has_method_of, has_property_of, enumerate_of, note_of, add_of, fail_of, return_of, throw_of, new_of, slot_of, load_of, self_of, on_true_of, on_false_of, on_equal_of, window_of, get_url_of, request_read_of, end_stream_of, later_of, destroy_of, exit_of, action_rows, plain_rows, own_rows}
 

@@ -8,7 +8,7 @@ use Rattle.np_grammar.specs.declared.command.Command.TheVariants as commands
 use Rattle.np_grammar.specs.declared.line.Field.{Field}
 use Rattle.np_grammar.specs.declared.line.Field.TheVariants.{Register, Operand as OfOperand, Number, Text, Identifier, Mode}
 use Rattle.np_grammar.specs.Rows.{command_line}
-use Rattle.np_rows.specs.Takes.{operand_in, text_in, all_of}
+use Rattle.np_fields.specs.Takes.{operand_in, text_in, all_of}
 use Rattle.np_rows.proofs.Taken.{bound, operands_were, texts_were, RowWas}
 use Rattle.np_rows.specs.Commands.{set_of, drop_of, invoke_of, call_default_of, construct_of, get_of, put_of, remove_of, has_method_of, has_property_of, enumerate_of, note_of, create_of, destroy_of, scriptable_of, new_of, turn_of, open_stream_of, pump_of, command_rows, page_rows}
 

@@ -1,4 +1,3 @@
-pub mod AllFields
 pub mod Taken
 pub mod ActionRows
 pub mod CommandRows

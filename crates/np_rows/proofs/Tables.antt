@@ -6,7 +6,7 @@ use Rattle.std.proofs.lemmas.Slice.Eq.{bytes_eq-Decides}
 use Rattle.np_grammar.specs.declared.line.Item.{Item}
 use Rattle.np_grammar.specs.declared.line.Field.{Field}
 use Rattle.np_grammar.specs.Forms.{Form, Table, Line, only, form_of, repeated, are_of, HasForm, IsOf}
-use Rattle.np_rows.specs.Takes.{Rows, said_by}
+use Rattle.np_rows.specs.SaidBy.{Rows, said_by}
 use Rattle.np_rows.proofs.Taken.{RowWas, IsSaid}
 
 pub bytes_same : (a b : List ℕ) → bytes_eq a b ≡ true → a ≡ b

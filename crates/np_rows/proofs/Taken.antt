@@ -14,7 +14,7 @@ use Rattle.np_grammar.specs.declared.line.Field.TheVariants.{Operand as OfOperan
 use Rattle.np_grammar.specs.Fields.{is_of}
 use Rattle.np_grammar.specs.Forms.{Line, are_of, repeated}
 use Rattle.np_grammar.specs.Rows.{values, texts, range_fields}
-use Rattle.np_rows.specs.Takes.{◌>>=◌, operand_in, text_in, all_of, all_ranges}
+use Rattle.np_fields.specs.Takes.{◌>>=◌, operand_in, text_in, all_of, all_ranges}
 
 -- a row made nothing of other fields than those of its lines
 abbrev pub RowWas : {A : Type 0} → (A → Line) → List ℕ × (List Field → Option A) → Type 0

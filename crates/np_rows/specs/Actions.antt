@@ -3,7 +3,8 @@ use Rattle.std.specs.Prelude.{ℕ, List, [], ◌∷◌, codes, Option, Some}
 use Rattle.np_grammar.specs.declared.action.Action.{Action}
 use Rattle.np_grammar.specs.declared.action.Action.TheVariants as actions
 use Rattle.np_grammar.specs.declared.line.Field.{Field}
-use Rattle.np_rows.specs.Takes.{◌>>=◌, take, register_in, operand_in, integer_in, byte_in, text_in, key_in, reason_in, at_end, all_of, all_ranges, Rows, said_by}
+use Rattle.np_fields.specs.Takes.{◌>>=◌, take, register_in, operand_in, integer_in, byte_in, text_in, key_in, reason_in, at_end, all_of, all_ranges}
+use Rattle.np_rows.specs.SaidBy.{Rows, said_by}
 
 -- ---- calls on objects, and what else a command may be too
 

@@ -3,7 +3,8 @@ use Rattle.std.specs.Prelude.{ℕ, List, [], ◌∷◌, codes, Option, Some}
 use Rattle.np_grammar.specs.declared.command.Command.{Command}
 use Rattle.np_grammar.specs.declared.command.Command.TheVariants as commands
 use Rattle.np_grammar.specs.declared.line.Field.{Field}
-use Rattle.np_rows.specs.Takes.{◌>>=◌, take, register_in, operand_in, byte_in, number_in, text_in, key_in, mode_in, at_end, all_of, Rows, said_by}
+use Rattle.np_fields.specs.Takes.{◌>>=◌, take, register_in, operand_in, byte_in, number_in, text_in, key_in, mode_in, at_end, all_of}
+use Rattle.np_rows.specs.SaidBy.{Rows, said_by}
 
 -- ---- calls on objects, and what else an action may be too
 

@@ -1,11 +1,11 @@
 //! The command of a line, field by field.
 
 ghost use Rattle.std.specs.Prelude.{◌≡◌};
-ghost use Rattle.np_rows.specs.Takes.{Gives};
+ghost use Rattle.np_fields.specs.Takes.{Gives};
 ghost use Rattle.np_rows.specs.Commands.{call_default_of, construct_of, drop_of, enumerate_of, get_of, has_method_of, has_property_of, invoke_of, note_of, put_of, remove_of, set_of, command_of};
 
-use crate::fields::Fields;
 use crate::page_commands::page_command;
+use np_fields::Fields;
 use np_grammar::Command;
 use np_values::NoMemory;
 use std::alloc::Global;

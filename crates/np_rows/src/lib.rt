@@ -3,7 +3,6 @@
 
 mod actions;
 mod commands;
-mod fields;
 mod laws;
 mod own_actions;
 mod page_commands;
@@ -11,11 +10,11 @@ mod plain_actions;
 
 pub use actions::action;
 pub use commands::command;
-pub use fields::Fields;
 pub use laws::{
     actions_are_read, actions_were_lines, commands_are_read, commands_were_lines,
     lines_say_actions, lines_say_commands,
 };
+pub use np_fields::Fields;
 
 #[cfg(test)]
 mod tests;

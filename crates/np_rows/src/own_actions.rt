@@ -1,10 +1,11 @@
 //! The actions of one side, field by field.
 
 ghost use Rattle.std.specs.Prelude.{◌≡◌};
-ghost use Rattle.np_rows.specs.Takes.{Gives, said_by};
+ghost use Rattle.np_fields.specs.Takes.{Gives};
+ghost use Rattle.np_rows.specs.SaidBy.{said_by};
 ghost use Rattle.np_rows.specs.Actions.{destroy_of, end_stream_of, exit_of, get_url_of, later_of, request_read_of, window_of, own_rows};
 
-use crate::fields::Fields;
+use np_fields::Fields;
 use np_grammar::Action;
 use np_values::NoMemory;
 use std::alloc::Global;

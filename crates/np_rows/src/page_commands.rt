@@ -1,10 +1,11 @@
 //! The commands that are no actions too, field by field.
 
 ghost use Rattle.std.specs.Prelude.{◌≡◌};
-ghost use Rattle.np_rows.specs.Takes.{Gives, said_by};
+ghost use Rattle.np_fields.specs.Takes.{Gives};
+ghost use Rattle.np_rows.specs.SaidBy.{said_by};
 ghost use Rattle.np_rows.specs.Commands.{create_of, destroy_of, new_of, open_stream_of, pump_of, scriptable_of, turn_of, page_rows};
 
-use crate::fields::Fields;
+use np_fields::Fields;
 use np_grammar::Command;
 use np_values::NoMemory;
 use std::alloc::Global;

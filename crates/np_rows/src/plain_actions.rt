@@ -1,11 +1,12 @@
 //! The actions of both sides that no command has, field by field.
 
 ghost use Rattle.std.specs.Prelude.{◌≡◌};
-ghost use Rattle.np_rows.specs.Takes.{Gives, said_by};
+ghost use Rattle.np_fields.specs.Takes.{Gives};
+ghost use Rattle.np_rows.specs.SaidBy.{said_by};
 ghost use Rattle.np_rows.specs.Actions.{add_of, fail_of, load_of, new_of, on_equal_of, on_false_of, on_true_of, return_of, self_of, slot_of, throw_of, plain_rows};
 
-use crate::fields::Fields;
 use crate::own_actions::own_action;
+use np_fields::Fields;
 use np_grammar::Action;
 use np_values::NoMemory;
 use std::alloc::Global;

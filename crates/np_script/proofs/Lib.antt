@@ -1,13 +1,4 @@
-pub mod Utf8
 pub mod FirstLine
-pub mod Texts
-pub mod CommandList
-pub mod Fits
-pub mod Quoting
-pub mod QuotedBytes
-pub mod CanonicalWords
-pub mod CanonicalLines
-pub mod CanonicalHead
-pub mod CanonicalPage
-pub mod FewCommands
-pub mod WellFormed
+pub mod LineKinds
+pub mod WholeTexts
+pub mod OneValue

@@ -1,4 +1,5 @@
-pub mod Gives
-pub mod Canonical
-pub use Rattle.np_model.specs.Script
-pub use Rattle.np_values.specs.Text
+pub mod Reading
+pub mod Laws
+pub mod Parsing
+pub use Rattle.np_grammar.specs.Grammar
+pub use Rattle.np_grammar.specs.Refusals

@@ -1,33 +1,17 @@
 //! Why a script isn't read.
 ghost use Rattle.std.specs.Prelude.{◌≡◌};
-ghost use Rattle.np_script.specs.declared.error.ParseError.TheVariants.{NoMemory as of_memory};
+ghost use Rattle.np_script.specs.declared.error.ParseError.TheVariants.{Script as of_script, NoMemory as of_memory};
 
+use np_grammar::ScriptError;
 use np_values::NoMemory;
-use std::alloc::{AllocError, AllocFailed};
 
 /// Why a script could not be read. (This project's own.)
 #[derive(Clone, Copy, Debug, PartialEq, Eq)]
 pub enum ParseError {
-    /// The bytes are no script of the grammar.
-    Script,
+    /// The bytes are no script: the first line at which none goes on, and why.
+    Script(ScriptError),
     /// Memory ran out before the script was read; it says nothing about the bytes.
     NoMemory,
-}
-
-impl From<AllocError> for ParseError {
-    ghost from_gives = { λ _ e. e ≡ of_memory };
-
-    fn from(_: AllocError) -> Self {
-        ParseError::NoMemory
-    }
-}
-
-impl<T: Drop> From<AllocFailed<T>> for ParseError {
-    ghost from_gives = { λ _ e. e ≡ of_memory };
-
-    fn from(_: AllocFailed<T>) -> Self {
-        ParseError::NoMemory
-    }
 }
 
 impl From<NoMemory> for ParseError {
@@ -35,5 +19,13 @@ impl From<NoMemory> for ParseError {
 
     fn from(_: NoMemory) -> Self {
         ParseError::NoMemory
+    }
+}
+
+impl From<ScriptError> for ParseError {
+    ghost from_gives = { λ given e. e ≡ of_script given };
+
+    fn from(error: ScriptError) -> Self {
+        ParseError::Script(error)
     }
 }

@@ -1,22 +1,96 @@
-//! What the grammar of page scripts promises beside the reading of one script.
-ghost use Rattle.np_script.specs.Canonical.{QuotedIsRead, TextHasOneSpelling, CanonicalPageIsRead, PagesAreWellFormed};
+//! What holds of scripts and their canonical texts.
+ghost use Rattle.np_script.specs.Laws.{OnePage, OnePlugin, NoPageIsRefused, NoPluginIsRefused, PageScriptsKeepRules, PluginScriptsKeepRules, CanonicalPagesAreScripts, CanonicalPluginsAreScripts, OneCanonicalPage, OneCanonicalPlugin, CommandsAreFew};
 
-/// A text in its canonical form, with quotes and escapes, is read as itself.
-pub fn quoted_is_read()
-    ensures law { QuotedIsRead }
-{}
+use np_build::{pages_are_built, plugins_are_built};
+use np_grammar_laws::{
+    canonical_lines_say_pages, canonical_lines_say_plugins, canonical_pages_are_in_order,
+    canonical_plugins_are_in_order,
+};
+use np_text_laws::{lines_are_few, one_say, refused_texts_are_no_scripts, texts_have_their_lines};
 
-/// A text has one form in scripts, the canonical one.
-pub fn text_has_one_spelling()
-    ensures law { TextHasOneSpelling }
-{}
+/// Bytes say at most one page.
+pub fn one_page()
+    ensures law { OnePage }
+{
+    one_say();
+    pages_are_built();
+}
 
-/// A page in its canonical form is read as itself.
-pub fn canonical_page_is_read()
-    ensures law { CanonicalPageIsRead }
-{}
+/// Bytes say at most one plug-in.
+pub fn one_plugin()
+    ensures law { OnePlugin }
+{
+    one_say();
+    plugins_are_built();
+}
 
-/// What holds of each page that is read.
-pub fn pages_are_well_formed()
-    ensures law { PagesAreWellFormed }
-{}
+/// Bytes that are refused are no page script.
+pub fn no_page_is_refused()
+    ensures law { NoPageIsRefused }
+{
+    refused_texts_are_no_scripts();
+}
+
+/// Bytes that are refused are no plug-in script.
+pub fn no_plugin_is_refused()
+    ensures law { NoPluginIsRefused }
+{
+    refused_texts_are_no_scripts();
+}
+
+/// What a page script says keeps the rules of the grammar.
+pub fn page_scripts_keep_rules()
+    ensures law { PageScriptsKeepRules }
+{
+    canonical_pages_are_in_order();
+}
+
+/// What a plug-in script says keeps the rules of the grammar.
+pub fn plugin_scripts_keep_rules()
+    ensures law { PluginScriptsKeepRules }
+{
+    canonical_plugins_are_in_order();
+}
+
+/// The canonical text of a page that keeps the rules is a script that says it, where it isn't too long.
+pub fn canonical_pages_are_scripts()
+    ensures law { CanonicalPagesAreScripts }
+{
+    texts_have_their_lines();
+    canonical_lines_say_pages();
+}
+
+/// The canonical text of a plug-in that keeps the rules is a script that says it, where it isn't too long.
+pub fn canonical_plugins_are_scripts()
+    ensures law { CanonicalPluginsAreScripts }
+{
+    texts_have_their_lines();
+    canonical_lines_say_plugins();
+}
+
+/// Two pages with one canonical text are the same.
+pub fn one_canonical_page()
+    ensures law { OneCanonicalPage }
+{
+    one_say();
+    pages_are_built();
+    texts_have_their_lines();
+    canonical_lines_say_pages();
+}
+
+/// Two plug-ins with one canonical text are the same.
+pub fn one_canonical_plugin()
+    ensures law { OneCanonicalPlugin }
+{
+    one_say();
+    plugins_are_built();
+    texts_have_their_lines();
+    canonical_lines_say_plugins();
+}
+
+/// A page has no more commands than its script has bytes.
+pub fn commands_are_few()
+    ensures law { CommandsAreFew }
+{
+    lines_are_few();
+}

@@ -1,24 +1,28 @@
-//! Reads page scripts and plug-in scripts.
+//! Reads page scripts and plug-in scripts, and prints them.
 #![tactic(auto)]
 
 mod error;
 mod laws;
 mod lines;
-mod page;
-mod plugin;
-mod quoted;
-mod words;
+mod parse;
+mod read;
+mod reader;
+mod script;
 
 pub use error::ParseError;
 pub use laws::{
-    canonical_page_is_read, pages_are_well_formed, quoted_is_read, text_has_one_spelling,
+    canonical_pages_are_scripts, canonical_plugins_are_scripts, commands_are_few,
+    no_page_is_refused, no_plugin_is_refused, one_canonical_page, one_canonical_plugin, one_page,
+    one_plugin, page_scripts_keep_rules, plugin_scripts_keep_rules,
 };
-pub use np_model::{Command, Commands, Page, Plugin};
-pub use page::parse_page;
-pub use plugin::parse_plugin;
-
-/// The most bytes of a script.
-const MAX_SCRIPT_BYTES: usize = 1_048_576;
+pub use np_grammar::{
+    Action, Body, ClassDef, Classes, Command, Commands, HandlerDef, Handlers, Member, Members,
+    Operand, Operands, Page, Plugin, Resource, Resources, ScriptError, ScriptKind, TaskDef, Tasks,
+};
+pub use np_levels::{page_level, plugin_level};
+pub use np_print::{print_page, print_plugin};
+pub use parse::{parse_page, parse_plugin};
+pub use script::{PageScript, PluginScript};
 
 #[cfg(test)]
 mod tests;

@@ -1,208 +1,270 @@
-//! Scripts that are read, and scripts that aren't.
+//! Scripts worked out by hand from the rules of docs/SCRIPTS.md.
 use super::*;
-use std::alloc::{AllocError, Global};
+use np_values::TryCopy;
+use std::alloc::Global;
 use std::test::*;
 
-/// `page 0 27`, `do`, and `create` lines of one text each, of `length` bytes.
-fn script_of_creates(alloc: Global, creates: usize, length: usize) -> Result<Vec<u8>, AllocError> {
-    let mut script = b"page 0 27\ndo\n".to_vec(alloc)?;
-    for _ in 0..creates {
-        script.extend_from_slice(b"create \"")?;
-        for _ in 0..length {
-            script.push(b'a')?;
+/// What a page script prints canonically, or where and why it is refused.
+fn page(alloc: Global, script: &[u8]) -> Result<(Vec<u8>, ScriptError), Fail> {
+    let mut out = Vec::new(alloc);
+    let none = ScriptError {
+        line: 0,
+        kind: ScriptKind::End,
+    };
+    match parse_page(alloc, script) {
+        Ok(page) => {
+            print_page(page.page(), &mut out)?;
+            Ok((out, none))
         }
-        script.extend_from_slice(b"\" full\n")?;
+        Err(ParseError::Script(error)) => Ok((out, error)),
+        Err(ParseError::NoMemory) => Err(Fail::from(np_values::NoMemory)),
     }
-    Ok(script)
 }
 
-/// `page 0 27`, `do` and comment lines, `length` bytes in all.
-fn script_of_comments(alloc: Global, length: usize) -> Result<Vec<u8>, AllocError> {
-    let mut script = b"page 0 27\ndo\n".to_vec(alloc)?;
-    for place in script.len()..length {
-        script.push(if place % 64 == 0 { b'\n' } else { b'#' })?;
+/// The same of a plug-in script.
+fn plugin(alloc: Global, script: &[u8]) -> Result<(Vec<u8>, ScriptError), Fail> {
+    let mut out = Vec::new(alloc);
+    let none = ScriptError {
+        line: 0,
+        kind: ScriptKind::End,
+    };
+    match parse_plugin(alloc, script) {
+        Ok(plugin) => {
+            print_plugin(plugin.plugin(), &mut out)?;
+            Ok((out, none))
+        }
+        Err(ParseError::Script(error)) => Ok((out, error)),
+        Err(ParseError::NoMemory) => Err(Fail::from(np_values::NoMemory)),
     }
-    Ok(script)
+}
+
+/// Whether a page script is refused at this line for this.
+fn page_fails(alloc: Global, script: &[u8], line: u32, kind: ScriptKind) -> Result<bool, Fail> {
+    let (out, error) = page(alloc, script)?;
+    Ok(out.is_empty() && error == ScriptError { line, kind })
+}
+
+fn plugin_fails(alloc: Global, script: &[u8], line: u32, kind: ScriptKind) -> Result<bool, Fail> {
+    let (out, error) = plugin(alloc, script)?;
+    Ok(out.is_empty() && error == ScriptError { line, kind })
 }
 
 #[test]
-fn scripts_that_are_read(rt: HostRuntime) -> Result<(), Fail> {
+fn pages_are_read_and_printed(rt: HostRuntime) -> Result<(), Fail> {
     let alloc = rt.alloc();
-    let table = [
-        (
-            b"page 0 27\ndo\ncreate \"t/x\" embed\nturn\n".as_slice(),
-            0,
-            27,
+    let (out, _) = page(alloc, b"  page 0   27\n# c\ndo\n  turn")?;
+    assert!(rt; out.as_slice() == b"page 0 27\ndo\nturn\n".as_slice());
+    let (out, _) = page(
+        alloc,
+        b"page 0 27\nresource \"u\" \"t/p\" 2 \"ab\"\nclass \"Bag\" 3\nmethod \"m\"\nnote $0\nend\ndata\nendclass\ndo\ncreate \"t/x\" embed \"a\" \"b\"\nput $0 \"12\" 1\nput $0 12 2\n",
+    )?;
+    assert!(rt;
+        out.as_slice()
+            == b"page 0 27\nclass \"Bag\" 3\ndata\nmethod \"m\"\nnote $0\nend\nendclass\nresource \"u\" \"t/p\" 2 \"ab\"\ndo\ncreate \"t/x\" embed \"a\" \"b\"\nput $0 \"12\" 1\nput $0 12 2\n".as_slice()
+    );
+    Ok(())
+}
+
+#[test]
+fn plugins_are_read_and_printed(rt: HostRuntime) -> Result<(), Fail> {
+    let alloc = rt.alloc();
+    let (out, _) = plugin(
+        alloc,
+        b"plugin 0 27\ntask \"a\"\nend\nclass \"C\" 1\ndata\nendclass",
+    )?;
+    assert!(rt;
+        out.as_slice()
+            == b"plugin 0 27\nclass \"C\" 1\ndata\nendclass\ntask \"a\"\nend\n".as_slice()
+    );
+    let script =
+        b"plugin 0 27\nclass \"Calc\" 3\nmethod \"add\"\nadd $2 $0 $1\nreturn $2\nend\nendclass\nhandler new\nnew $0 \"Calc\"\nslot 0 $0\nend\nhandler scriptable\nload $0 0\nreturn $0\nend\n";
+    let (out, _) = plugin(alloc, script)?;
+    assert!(rt; out.as_slice() == script.as_slice());
+    Ok(())
+}
+
+#[test]
+fn refusals_of_pages(rt: HostRuntime) -> Result<(), Fail> {
+    let alloc = rt.alloc();
+    assert!(rt; page_fails(alloc, b"", 1, ScriptKind::End)?);
+    assert!(rt; page_fails(alloc, b"page 0 27\n", 2, ScriptKind::End)?);
+    assert!(rt; page_fails(alloc, b"page 0 27\nclass \"C\" 1\n", 3, ScriptKind::End)?);
+    assert!(rt; page_fails(alloc, b"page 0 256", 1, ScriptKind::Form)?);
+    assert!(rt; page_fails(alloc, b"page 0", 1, ScriptKind::Form)?);
+    assert!(rt; page_fails(alloc, b"plugin 0 27", 1, ScriptKind::Word)?);
+    assert!(rt; page_fails(alloc, b"page 0 27\n# \x01\ndo", 2, ScriptKind::Bytes)?);
+    assert!(rt; page_fails(alloc, b"page 0 27\n\xff\ndo", 2, ScriptKind::Bytes)?);
+    assert!(rt; page_fails(alloc, b"page 0 27\ntask \"a\"", 2, ScriptKind::Word)?);
+    assert!(rt; page_fails(alloc, b"page 0 27\nclass \"C\" 4", 2, ScriptKind::Form)?);
+    assert!(rt;
+        page_fails(
+            alloc,
+            b"page 0 27\nclass \"C\" 1\nendclass\n\nclass \"C\" 2",
+            5,
+            ScriptKind::Twice
+        )?
+    );
+    assert!(rt;
+        page_fails(
+            alloc,
+            b"page 0 27\nresource \"u\" \"t\" 16777216 \"ab\"",
             2,
-        ),
-        (b"  page 0   27\n# c\ndo\n  turn\n".as_slice(), 0, 27, 1),
-        (b"page 255 0\ndo".as_slice(), 255, 0, 0),
-        (
-            b"\n\npage 1 9\n   \n\n do \n\n turn  \n\n".as_slice(),
-            1,
-            9,
-            1,
-        ),
-        (
-            b"page 10 100\ndo\n  # \xc3\xa9\nturn\ncreate   \"\xc3\xa9\"   full  ".as_slice(),
-            10,
-            100,
-            2,
-        ),
-        (
-            b"page 0 27\ndo\ncreate \"a # b\" embed\n#turn\nturn\nturn".as_slice(),
-            0,
-            27,
+            ScriptKind::Limit
+        )?
+    );
+    assert!(rt;
+        page_fails(
+            alloc,
+            b"page 0 27\ndo\ninvoke $0 $1 \"m\" 1 2 3 4 5 6 7 8 9",
             3,
-        ),
-        (
-            b"page 0 27\ndo\ncreate \"\\\"\\\\\\x00\\x1f\\x7f\" embed".as_slice(),
-            0,
-            27,
-            1,
-        ),
-    ];
-    for (script, major, minor, commands) in table {
-        let page = parse_page(alloc, script)?;
-        assert_eq!(rt; page.major, major);
-        assert_eq!(rt; page.minor, minor);
-        assert_eq!(rt; page.commands.as_slice().len(), commands);
-    }
-    for script in [
-        script_of_creates(alloc, 1, 2048)?,
-        script_of_creates(alloc, 255, 3)?,
-        script_of_comments(alloc, 1_048_576)?,
-    ] {
-        assert!(rt; parse_page(alloc, &script).is_ok());
-    }
+            ScriptKind::Limit
+        )?
+    );
+    assert!(rt; page_fails(alloc, b"page 0 27\ndo\nset $0 -0", 3, ScriptKind::Form)?);
+    assert!(rt; page_fails(alloc, b"page 0 27\ndo\nset $0 007", 3, ScriptKind::Form)?);
+    assert!(rt;
+        page_fails(
+            alloc,
+            b"page 0 27\ndo\nset $0 \"\\x7F\"",
+            3,
+            ScriptKind::Form
+        )?
+    );
+    assert!(rt; page_fails(alloc, b"page 0 27\ndo\nexit 1", 3, ScriptKind::Word)?);
     Ok(())
 }
 
 #[test]
-fn scripts_that_are_refused(rt: HostRuntime) -> Result<(), Fail> {
+fn refusals_of_plugins(rt: HostRuntime) -> Result<(), Fail> {
     let alloc = rt.alloc();
-    let table = [
-        b"".as_slice(),
-        b"page 0 27".as_slice(),
-        b"page 0 256\ndo".as_slice(),
-        b"page 00 27\ndo".as_slice(),
-        b"page 0 +27\ndo".as_slice(),
-        b"page 0\ndo".as_slice(),
-        b"page 0 27 0\ndo".as_slice(),
-        b"do\npage 0 27".as_slice(),
-        b"page 0 27\ndo\ndo".as_slice(),
-        b"page 0 27\ndo\nstop".as_slice(),
-        b"page 0 27\ndo\nTurn".as_slice(),
-        b"page 0 27\ndo\nturn 1".as_slice(),
-        b"page 0 27\ndo\nturn #".as_slice(),
-        b"page 0 27\ndo\ncreate \"t/x\"".as_slice(),
-        b"page 0 27\ndo\ncreate \"t/x\" other".as_slice(),
-        b"page 0 27\ndo\ncreate \"t/x\"embed".as_slice(),
-        b"page 0 27\ndo\ncreate \"t/x\" embed full".as_slice(),
-        b"page 0 27\ndo\ncreate \"t/x embed".as_slice(),
-        b"page 0 27\ndo\ncreate t/x embed".as_slice(),
-        b"page 0 27\ndo\ncreate \"\\x7F\" embed".as_slice(),
-        b"page 0 27\ndo\ncreate \"\\x20\" embed".as_slice(),
-        b"page 0 27\ndo\ncreate \"\\n\" embed".as_slice(),
-        b"page 0 27\r\ndo".as_slice(),
-        b"page 0 27\ndo\n\tturn".as_slice(),
-        b"page 0 27\ndo\ncreate \"\x1f\" embed".as_slice(),
-        b"page 0 27\ndo\ncreate \"\x7f\" embed".as_slice(),
-        b"page 0 27\n# \xff\ndo".as_slice(),
-        b"page 0 27\ndo\n# \x7f".as_slice(),
-        b"page 0 27\ndo\ncreate \"\xc3\" embed".as_slice(),
-    ];
-    for script in table {
-        assert!(rt; matches!(parse_page(alloc, script), Err(ParseError::Script)));
+    assert!(rt;
+        plugin_fails(
+            alloc,
+            b"plugin 0 27\ntask \"a\"\nend\ntask \"a\"",
+            4,
+            ScriptKind::Twice
+        )?
+    );
+    assert!(rt;
+        plugin_fails(
+            alloc,
+            b"plugin 0 27\nhandler new\nend\nhandler new",
+            4,
+            ScriptKind::Twice
+        )?
+    );
+    assert!(rt;
+        plugin_fails(
+            alloc,
+            b"plugin 0 27\nclass \"C\" 1\ndata\ndata",
+            4,
+            ScriptKind::Twice
+        )?
+    );
+    assert!(rt;
+        plugin_fails(
+            alloc,
+            b"plugin 0 27\nclass \"C\" 1\nmethod 1\nend\nmethod \"1\"\nend\nmethod 1",
+            7,
+            ScriptKind::Twice
+        )?
+    );
+    assert!(rt;
+        plugin_fails(
+            alloc,
+            b"plugin 0 27\nhandler new\ndestroy $0 1",
+            3,
+            ScriptKind::Word
+        )?
+    );
+    assert!(rt; plugin_fails(alloc, b"plugin 0 27\nhandler draw", 2, ScriptKind::Form)?);
+    assert!(rt;
+        plugin_fails(
+            alloc,
+            b"plugin 0 27\nhandler new\nexit 64",
+            3,
+            ScriptKind::Form
+        )?
+    );
+    assert!(rt;
+        plugin_fails(
+            alloc,
+            b"plugin 0 27\nhandler new\nreqread $0 1",
+            3,
+            ScriptKind::Form
+        )?
+    );
+    assert!(rt;
+        plugin_fails(
+            alloc,
+            b"plugin 0 27\nhandler new\nreqread $0 1 0 1 0 1 0 1 0 1 0 1",
+            3,
+            ScriptKind::Limit
+        )?
+    );
+    assert!(rt; plugin_fails(alloc, b"plugin 0 27\nhandler new\n", 3, ScriptKind::End)?);
+    assert!(rt; plugin_fails(alloc, b"plugin 0 27\ndo", 2, ScriptKind::Word)?);
+    Ok(())
+}
+
+/// A page whose one command sets a text of so many letters.
+fn long_text(alloc: Global, letters: usize) -> Result<Vec<u8>, Fail> {
+    let mut script = Vec::new(alloc);
+    script.extend_from_slice(b"page 0 27\ndo\nset $0 \"")?;
+    for _ in 0..letters {
+        script.push(b'a')?;
     }
-    for script in [
-        script_of_creates(alloc, 1, 2049)?,
-        script_of_creates(alloc, 256, 3)?,
-        script_of_comments(alloc, 1_048_577)?,
-    ] {
-        assert!(rt; matches!(parse_page(alloc, &script), Err(ParseError::Script)));
+    script.extend_from_slice(b"\"\n")?;
+    Ok(script)
+}
+
+#[test]
+fn limits_of_texts_and_sizes(rt: HostRuntime) -> Result<(), Fail> {
+    let alloc = rt.alloc();
+    let script = long_text(alloc, 2048)?;
+    let (out, _) = page(alloc, &script)?;
+    assert!(rt; out == script);
+    assert!(rt; page_fails(alloc, &long_text(alloc, 2049)?, 3, ScriptKind::Limit)?);
+    let mut script = Vec::new(alloc);
+    for _ in 0..1_048_576 {
+        script.push(b' ')?;
+    }
+    assert!(rt; page_fails(alloc, &script, 2, ScriptKind::End)?);
+    script.push(b' ')?;
+    assert!(rt; page_fails(alloc, &script, 0, ScriptKind::Size)?);
+    Ok(())
+}
+
+#[test]
+fn resources_are_copied(rt: HostRuntime) -> Result<(), Fail> {
+    let alloc = rt.alloc();
+    let script = b"page 0 27\nresource \"u\" \"t/p\" 3 \"ab\"\nresource \"v\" \"t\" 0 \"c\"\ndo\n";
+    let Ok(page) = parse_page(alloc, script) else {
+        return Err(Fail::from(np_values::NoMemory));
+    };
+    let copy = page.page().resources.try_copy(alloc)?;
+    match copy.as_slice() {
+        [first, second] => {
+            assert!(rt; first.url.as_str() == "u" && first.times == 3);
+            assert!(rt; first.content.as_slice() == b"ababab".as_slice());
+            assert!(rt; second.mime.as_str() == "t" && second.content.is_empty());
+        }
+        _ => assert!(rt; false),
     }
     Ok(())
 }
 
 #[test]
-fn plugins_that_are_read(rt: HostRuntime) -> Result<(), Fail> {
-    let table = [
-        (b"plugin 0 27\n".as_slice(), 0, 27, None),
-        (b"plugin 255 0".as_slice(), 255, 0, None),
-        (
-            b"# c\n plugin  1   2 \n\n handler  new\n\n  return 3\n# d\nend".as_slice(),
-            1,
-            2,
-            Some(3),
-        ),
-        (
-            b"plugin 0 27\nhandler new\nreturn 0\nend\n".as_slice(),
-            0,
-            27,
-            Some(0),
-        ),
-        (
-            b"plugin 0 27\nhandler new\nreturn -1\nend\n".as_slice(),
-            0,
-            27,
-            Some(-1),
-        ),
-        (
-            b"plugin 0 27\nhandler new\nreturn 2147483647\nend\n".as_slice(),
-            0,
-            27,
-            Some(2147483647),
-        ),
-        (
-            b"plugin 0 27\nhandler new\nreturn -2147483648\nend\n".as_slice(),
-            0,
-            27,
-            Some(-2147483648),
-        ),
-    ];
-    for (script, major, minor, new_handler) in table {
-        let plugin = parse_plugin(script)?;
-        assert_eq!(rt; plugin.major, major);
-        assert_eq!(rt; plugin.minor, minor);
-        assert_eq!(rt; plugin.new_handler, new_handler);
-    }
-    Ok(())
-}
-
-#[test]
-fn plugins_that_are_refused(rt: HostRuntime) {
-    let table = [
-        b"".as_slice(),
-        b"# plugin 0 27".as_slice(),
-        b"plugin 0 256".as_slice(),
-        b"plugin 00 27".as_slice(),
-        b"plugin 0".as_slice(),
-        b"plugin 0 27 0".as_slice(),
-        b"page 0 27".as_slice(),
-        b"plugin 0 27\ndo".as_slice(),
-        b"plugin 0 27\nhandler new".as_slice(),
-        b"plugin 0 27\nhandler new\nreturn 0".as_slice(),
-        b"plugin 0 27\nhandler new\nend".as_slice(),
-        b"plugin 0 27\nhandler new\nreturn 0\nreturn 0\nend".as_slice(),
-        b"plugin 0 27\nhandler destroy\nreturn 0\nend".as_slice(),
-        b"plugin 0 27\nhandler\nreturn 0\nend".as_slice(),
-        b"plugin 0 27\nhandler new 1\nreturn 0\nend".as_slice(),
-        b"plugin 0 27\nhandler new\nreturn\nend".as_slice(),
-        b"plugin 0 27\nhandler new\nreturn 0 0\nend".as_slice(),
-        b"plugin 0 27\nhandler new\nreturn 0\nend 0".as_slice(),
-        b"plugin 0 27\nhandler new\nreturn -0\nend".as_slice(),
-        b"plugin 0 27\nhandler new\nreturn 007\nend".as_slice(),
-        b"plugin 0 27\nhandler new\nreturn +1\nend".as_slice(),
-        b"plugin 0 27\nhandler new\nreturn -\nend".as_slice(),
-        b"plugin 0 27\nhandler new\nreturn 2147483648\nend".as_slice(),
-        b"plugin 0 27\nhandler new\nreturn -2147483649\nend".as_slice(),
-        b"plugin 0 27\nhandler new\nreturn 99999999999999999999\nend".as_slice(),
-        b"plugin 0 27\nhandler new\nreturn 0\nend\nhandler new\nreturn 0\nend".as_slice(),
-        b"plugin 0 27\nhandler new\nreturn 0\nend\n\tend".as_slice(),
-        b"plugin 0 27\nhandler new\nreturn 0\nend\n# \xff".as_slice(),
-    ];
-    for script in table {
-        assert!(rt; matches!(parse_plugin(script), Err(ParseError::Script)));
-    }
+fn each_law_stands(_rt: HostRuntime) {
+    one_page();
+    one_plugin();
+    no_page_is_refused();
+    no_plugin_is_refused();
+    page_scripts_keep_rules();
+    plugin_scripts_keep_rules();
+    canonical_pages_are_scripts();
+    canonical_plugins_are_scripts();
+    one_canonical_page();
+    one_canonical_plugin();
+    commands_are_few();
 }

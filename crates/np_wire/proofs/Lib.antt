@@ -1,10 +1,1 @@
-pub mod Loops
-pub mod Encoded
-pub mod Decoded
 pub mod Fronts
-pub mod Lengths
-pub mod Formats
-pub mod Agreement
-pub mod ItemAgreement
-pub mod BodyAgreement
-pub mod FirstFaults

@@ -1,9 +1,13 @@
 -- What a feed has, and what it answers. (This project's own.)
 use Rattle.std.specs.Prelude.{◌≡◌, ℕ, ◌+◌, ◌-◌, ◌≤◌, List, ◌++◌, length, drop, Option, Some, None, Result, Ok, Err}
-use Rattle.np_model.specs.declared.message.Message.{Message}
-use Rattle.np_model.specs.Encoding.{encoding, KeepsFormat, IsTyped}
-use Rattle.np_model.specs.Decoding.{Front, Partial, Whole, Bad, front, front_sized}
-use Rattle.np_model.specs.Faults.{IsFirstFault}
+use Rattle.np_message.specs.declared.wire.WireKind.TheVariants.{Item as ItemRule, Rest}
+use Rattle.np_message.specs.Message.{Message}
+use Rattle.np_message.specs.Encoding.{encoding}
+use Rattle.np_message.specs.Rules.{KeepsFormat, IsTyped}
+use Rattle.np_message.specs.Decoding.{Front, Partial, Whole, Bad, front, front_sized}
+use Rattle.np_message.specs.Faults.{IsFirstFault}
+use Rattle.np_decode.specs.declared.unread.Broken.{Broken}
+use Rattle.np_decode.specs.declared.unread.Broken.TheVariants as broken
 use Rattle.np_wire.specs.declared.error.FeedError.{FeedError}
 use Rattle.np_wire.specs.declared.error.FeedError.TheVariants.{Wire, NoMemory}
 
@@ -24,6 +28,12 @@ abbrev pub RefusesFirstFault : {X : Type 0} → ℕ → List ℕ → Result X Fe
 RefusesFirstFault at bytes (Ok x) = Unit {0}
 RefusesFirstFault at bytes (Err (Wire e)) = IsFirstFault at bytes e
 RefusesFirstFault at bytes (Err NoMemory) = Unit {0}
+
+-- memory is wanted only where this holds
+abbrev pub WantsMemoryOnly : {X : Type 0} → Type 0 → Result X FeedError → Type 0
+WantsMemoryOnly P (Ok x) = Unit {0}
+WantsMemoryOnly P (Err (Wire e)) = Unit {0}
+WantsMemoryOnly P (Err NoMemory) = P
 
 -- a message with its number of bytes is what stands at the front
 abbrev pub FrontIs : Front → List ℕ → Result (Option (Message × ℕ)) FeedError → Type 0
@@ -51,4 +61,10 @@ SizedGives at n rest r = SizedIs (front_sized at n rest) rest r
 pub record IsEncoded (m : Message) (old new : List ℕ) : Type 0 where
   pub parts : old ≡ encoding m ++ new
   pub format : KeepsFormat m
-  pub typed : IsTyped m.body
+  pub typed : IsTyped m
+
+-- how a body is refused that breaks a rule, of a message that begins at this place and has this length
+abbrev pub RefusedAs : ℕ → ℕ → Broken → FeedError → Type 0
+RefusedAs at n (broken.Item left) e = e ≡ Wire (record { at = at + 4 + n - left; kind = ItemRule; first = at; second = n })
+RefusedAs at n (broken.Rest left) e = e ≡ Wire (record { at = at + 4 + n - left; kind = Rest; first = at; second = n })
+RefusedAs at n broken.NoMemory e = e ≡ NoMemory

@@ -1,7 +1,6 @@
-pub mod Reading
-pub mod Writing
 pub mod Feed
-pub mod Laws
-pub use Rattle.np_model.specs.Encoding
-pub use Rattle.np_model.specs.Decoding
-pub use Rattle.np_model.specs.Faults
+pub use Rattle.np_message.specs.Encoding
+pub use Rattle.np_message.specs.Decoding
+pub use Rattle.np_message.specs.Faults
+pub use Rattle.np_message_laws.specs.Laws
+pub use Rattle.np_decode.specs.Reading

@@ -3,7 +3,7 @@
 ghost use Rattle.std.specs.Prelude.{◌≡◌};
 ghost use Rattle.np_wire.specs.declared.error.FeedError.TheVariants.{NoMemory as of_memory};
 
-use np_model::WireError;
+use np_message::WireError;
 use np_values::NoMemory;
 use std::alloc::{AllocError, AllocFailed};
 

@@ -1,12 +1,13 @@
 //! The decoder of a stream: bytes in, whole messages out.
 
-ghost use Rattle.std.specs.Prelude.{◌≡◌, ◌+◌, ◌-◌, ◌<◌, ◌≤◌, ◌^◌, ◌++◌, [], drop, length, OnOk, OnErr, IfOk, IfSome};
-ghost use Rattle.np_wire.specs.Feed.{Fed, NextGives, RefusesFirstFault, FrontGives, SizedGives, IsEncoded};
-ghost use Rattle.np_wire.specs.Reading.{WantsMemoryOnly, BeginsNew};
+ghost use Rattle.std.specs.Prelude.{◌≡◌, ◌+◌, ◌-◌, ◌<◌, ◌≤◌, ◌^◌, ◌++◌, [], true, drop, length, OnOk, OnErr, IfOk, IfSome};
+ghost use Rattle.np_decode.specs.Reading.{needs_memory};
+ghost use Rattle.np_wire.specs.Feed.{Fed, NextGives, RefusesFirstFault, FrontGives, SizedGives, IsEncoded, WantsMemoryOnly, RefusedAs};
 
 use crate::FeedError;
-use crate::reading::body;
-use np_model::{Extent, Message, WireError, WireKind};
+use np_decode::{Broken, decode_body};
+use np_message::{Message, WireError, WireKind};
+use np_message_laws::{fault_is_first, read_is_encoded};
 use np_values::NoMemory;
 use std::alloc::Global;
 use std::marker::Model;
@@ -57,12 +58,13 @@ impl Feed {
     }
 
     /// The next message, or `None` while more bytes have to come. Bytes that break the format stay where
-    /// they are, so a later call gives the same error, or wants memory. Only NPP_New takes memory.
+    /// they are, so a later call gives the same error, or wants memory. Only messages with texts, bytes, values,
+    /// lists or releases take memory.
     pub fn next(&mut self) -> Result<Option<Message>, FeedError>
         ensures exact { NextGives self.old self.new result }
         ensures found { IfOk result (λ next. IfSome next (λ m. IsEncoded m self.old.left self.new.left)) }
         ensures fault { RefusesFirstFault self.old.consumed self.old.left result }
-        ensures memory { WantsMemoryOnly (BeginsNew (drop 4 self.old.left)) result }
+        ensures memory { WantsMemoryOnly (needs_memory (drop 4 self.old.left) ≡ true) result }
     {
         match front(self.alloc, self.consumed, &self.bytes[self.start..])? {
             None => Ok(None),
@@ -94,21 +96,40 @@ impl Feed {
 }
 
 // The message at the front, and how many bytes it has.
-#[tactic(auto, unfolding(np_model::specs::Decoding::front))]
 fn front(alloc: Global, at: u64, bytes: &[u8]) -> Result<Option<(Message, usize)>, FeedError>
     requires { at + length bytes.now < 2 ^ 64 }
     ensures front { FrontGives at bytes.now result }
-    ensures memory { WantsMemoryOnly (BeginsNew (drop 4 bytes.now)) result }
+    ensures memory { WantsMemoryOnly (needs_memory (drop 4 bytes.now) ≡ true) result }
     ensures size { IfOk result (λ next. IfSome next (λ m. m.1 ≤ length bytes.now)) }
     ensures found { IfOk result (λ next. IfSome next (λ m. IsEncoded m.0 bytes.now (drop m.1 bytes.now))) }
     ensures fault { RefusesFirstFault at bytes.now result }
 {
+    read_is_encoded();
+    fault_is_first();
     if bytes.len() < 4 {
         return Ok(None);
     }
     let (size, rest) = bytes.split_at(4);
     let size = u32::from_be_bytes([size[0], size[1], size[2], size[3]]);
     sized(alloc, at, size, rest)
+}
+
+// Why a body is refused, of a message that begins at this place and has this length.
+fn refused(at: u64, length: u64, broken: Broken) -> FeedError
+    requires { at + 4 + length < 2 ^ 64 }
+    ensures { RefusedAs at length broken result }
+{
+    let (kind, left) = match broken {
+        Broken::Item(left) => (WireKind::Item, left),
+        Broken::Rest(left) => (WireKind::Rest, left),
+        Broken::NoMemory => return FeedError::NoMemory,
+    };
+    FeedError::Wire(WireError {
+        at: (at + 4 + length).saturating_sub(left as u64),
+        kind,
+        first: at,
+        second: length,
+    })
 }
 
 // As `front`, of the bytes behind the length.
@@ -120,7 +141,7 @@ fn sized(
 ) -> Result<Option<(Message, usize)>, FeedError>
     requires { at + 4 + length rest.now < 2 ^ 64 }
     ensures front { SizedGives at size rest.now result }
-    ensures memory { WantsMemoryOnly (BeginsNew rest.now) result }
+    ensures memory { WantsMemoryOnly (needs_memory rest.now ≡ true) result }
     ensures size { IfOk result (λ next. IfSome next (λ m. m.1 ≤ 4 + length rest.now)) }
 {
     if size < 4 || size > 32768 {
@@ -135,11 +156,8 @@ fn sized(
     if rest.len() < size {
         return Ok(None);
     }
-    let extent = Extent {
-        start: at,
-        length: size as u64,
-        end: at + 4 + size as u64,
-    };
-    let message = body(alloc, extent, &rest[..size])?;
-    Ok(Some((message, 4 + size)))
+    match decode_body(alloc, &rest[..size]) {
+        Ok(message) => Ok(Some((message, 4 + size))),
+        Err(broken) => Err(refused(at, size as u64, broken)),
+    }
 }

@@ -3,18 +3,14 @@
 
 mod error;
 mod feed;
-mod laws;
-mod reading;
-mod writing;
+#[cfg(test)]
+mod tests;
 
 pub use error::FeedError;
 pub use feed::Feed;
-pub use laws::{
-    encoded_is_read_again, fault_is_first, items_are_of_messages, length_is_refused,
-    no_encoding_begins_another, partial_is_cut_short, read_is_encoded,
+pub use np_encode::encode;
+pub use np_message::{Depth, Message, Payload, WireError, WireKind};
+pub use np_message_laws::{
+    encoded_is_read_again, encodings_are_of_messages, fault_is_first, length_is_refused,
+    messages_fit, no_encoding_begins_another, partial_is_cut_short, read_is_encoded,
 };
-pub use np_model::{Depth, Message, Payload, Texts, WireError, WireKind};
-pub use writing::encode;
-
-#[cfg(test)]
-mod tests;

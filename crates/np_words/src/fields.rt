@@ -8,12 +8,9 @@ ghost use Rattle.np_words.specs.Lines.{SaysFields, TakesField, TakesItems};
 use crate::field::read_field;
 use crate::line::{has_word, next_word};
 use crate::{FieldError, Form};
-use np_grammar::{Field, Item};
-use np_values::Seq;
+use np_fields::Fields;
+use np_grammar::Item;
 use std::alloc::Global;
-
-/// The fields of a line, in their order.
-pub type Fields = Seq<Field>;
 
 /// The fields of a line as far as it was read. Once a limit was passed, none is kept.
 #[derive(Drop)]
@@ -89,7 +86,7 @@ pub fn read_fields(alloc: Global, form: Form, rest: &[u8]) -> Result<Fields, Fie
     ensures value { Reads (SaysFields (form_value form) rest.now) (KeepsLimits (form_value form)) result }
 {
     let mut reading = Reading {
-        fields: Seq::new(alloc),
+        fields: Fields::new(alloc),
         passed: false,
     };
     let mut left = take_items(&mut reading, alloc, form.items, rest)?;

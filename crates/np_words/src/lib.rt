@@ -16,10 +16,11 @@ mod value;
 
 pub use error::FieldError;
 pub use field::read_field;
-pub use fields::{Fields, read_fields};
+pub use fields::read_fields;
 pub use form::Form;
 pub use laws::{one_field, one_line, one_reading, one_word, plain_word, spaced_line, spaced_words};
 pub use line::{is_plain_line, next_word};
+pub use np_fields::Fields;
 pub use number::{read_int, read_number, read_register};
 pub use print::{
     push_field, push_handler, push_key, push_mode, push_operand, push_register, push_value,

@@ -32,7 +32,7 @@ fn count(alloc: Global, side: Side, place: Place, line: &[u8]) -> Result<usize, 
     let Some(form) = form_at(side, place, word) else {
         return Err(FieldError::Form);
     };
-    Ok(read_fields(alloc, form, rest)?.as_slice().len())
+    Ok(read_fields(alloc, form, rest)?.len())
 }
 
 fn page(alloc: Global, line: &str) -> Result<usize, FieldError> {

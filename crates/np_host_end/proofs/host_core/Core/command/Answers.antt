@@ -11,5 +11,5 @@ pub push_call-requires-in-Compatible-peer : goal.push_call-requires-in-Compatibl
 push_call-requires-in-Compatible-peer c =
     let n = next_create (length c.args.self.now.phases.items) c.args.self.now.next _ c.args.self.now.page.commands _ _ _ c.as_slice.ensures.same c.requires.more c.index-as_slice-self.is c.in-Create.is c.args.self.now.fits in
     record {
-      kept = (omega arith, omega arith, omega arith, rw c.in_ok-try_copy-in-Compatible-peer.ensures.value c.in_ok-try_copy-in-Compatible-peer.ensures.short, (0, omega arith, ap length c.new.ensures.value));
+      kept = (omega arith, omega arith, omega arith, (0, omega arith, ap length c.new.ensures.value));
     }

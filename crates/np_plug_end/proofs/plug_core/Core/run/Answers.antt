@@ -1,4 +1,4 @@
-use Rattle.std.proofs.Common.{Option, Some, refl, subst, ◌∙◌, ap}
+use Rattle.std.proofs.Common.{Option, refl, subst, ◌∙◌}
 use Rattle.np_plug_end.specs.Core.{Listened}
 use Rattle.np_endpoint.specs.declared.halt.Halt.{Halt}
 use Rattle.np_plug_end.proofs.CoreRuns.{listening-at, has-ended, listened-keeps, halted}

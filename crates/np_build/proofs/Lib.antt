@@ -1,0 +1,15 @@
+pub mod Contents
+pub mod GoingOn
+pub mod ByRows
+pub mod SaidSoFar
+pub mod Declared
+pub mod TopSteps
+pub mod ClassLines
+pub mod ClassSteps
+pub mod BodySteps
+pub mod Forward
+pub mod Parts
+pub mod BodyParts
+pub mod ClassParts
+pub mod ScriptParts
+pub mod Backward

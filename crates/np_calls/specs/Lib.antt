@@ -1,0 +1,2 @@
+pub mod Calls
+pub use Rattle.np_message.specs.Message

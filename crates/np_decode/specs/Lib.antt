@@ -1,0 +1,2 @@
+pub mod Reading
+pub use Rattle.np_message.specs.Decoding

@@ -1,0 +1,2 @@
+pub mod Writing
+pub use Rattle.np_message.specs.Encoding

@@ -1,0 +1,2 @@
+pub mod Levels
+pub use Rattle.np_grammar.specs.Forms

@@ -1,0 +1,2 @@
+pub mod MessageRows
+pub mod FaultRows

@@ -1,0 +1,13 @@
+pub mod Message
+pub mod Encoding
+pub mod Kinds
+pub mod Rules
+pub mod Items
+pub mod Formats
+pub mod Decoding
+pub mod Faults
+pub use Rattle.np_values.specs.Text
+pub use Rattle.np_values.specs.NpError
+pub use Rattle.np_values.specs.NpReason
+pub use Rattle.np_idents.specs.IdText
+pub use Rattle.np_proxy.specs.Release

@@ -1,0 +1,80 @@
+//! One line of a script.
+ghost use Rattle.std.specs.Prelude.{◌≡◌, ◌∷◌, List, ℕ};
+ghost use Rattle.np_grammar.specs.Words.{words_of};
+ghost use Rattle.np_script.specs.Reading.{CanBuild, ReadsWords, HasRead, ReadsLine};
+
+use np_build::{Builder, built_goes_on};
+use np_grammar::ScriptKind;
+use np_order::{Order, OrderError};
+use np_text_laws::{lines_go_on, skipped_lines_go_on};
+use np_values::{NoMemory, Side};
+use np_words::{FieldError, form_at, is_plain_line, next_word, read_fields};
+use std::alloc::Global;
+
+/// Why a line isn't read.
+#[derive(Clone, Copy, Debug, PartialEq, Eq)]
+pub enum LineError {
+    /// No script goes on with it, for this.
+    Refused(ScriptKind),
+    NoMemory,
+}
+
+/// Reads a line that counts, whose first word and rest these are.
+fn read_words(
+    alloc: Global,
+    side: Side,
+    order: &mut Order,
+    builder: &mut Builder,
+    word: &[u8],
+    rest: &[u8],
+) -> Result<(), LineError>
+    requires builds { CanBuild side order.old builder.old }
+    ensures words { ReadsWords side order.old builder.old (word.now ∷ words_of rest.now) order.new builder.new result }
+{
+    let place = order.place();
+    let Some(form) = form_at(side, place, word) else {
+        return Err(LineError::Refused(ScriptKind::Word));
+    };
+    let fields = match read_fields(alloc, form, rest) {
+        Ok(fields) => fields,
+        Err(FieldError::Form) => return Err(LineError::Refused(ScriptKind::Form)),
+        Err(FieldError::Limit) => return Err(LineError::Refused(ScriptKind::Limit)),
+        Err(FieldError::NoMemory) => return Err(LineError::NoMemory),
+    };
+    match order.accept(word, &fields) {
+        Ok(()) => {}
+        Err(OrderError::Limit) => return Err(LineError::Refused(ScriptKind::Limit)),
+        Err(OrderError::Twice) => return Err(LineError::Refused(ScriptKind::Twice)),
+        Err(OrderError::NoMemory) => return Err(LineError::NoMemory),
+    }
+    match builder.take(alloc, place, word, fields) {
+        Ok(()) => Ok(()),
+        Err(NoMemory) => Err(LineError::NoMemory),
+    }
+}
+
+/// Reads the next line of a script. One without words, and one that begins with #, is skipped.
+pub fn read_line(
+    alloc: Global,
+    side: Side,
+    order: &mut Order,
+    builder: &mut Builder,
+    line: &[u8],
+) -> Result<(), LineError>
+    requires builds { CanBuild side order.old builder.old }
+    ensures line { ReadsLine side order.old builder.old line.now order.new builder.new result }
+{
+    lines_go_on();
+    skipped_lines_go_on();
+    built_goes_on();
+    if !is_plain_line(line) {
+        return Err(LineError::Refused(ScriptKind::Bytes));
+    }
+    let Some((word, rest)) = next_word(line) else {
+        return Ok(());
+    };
+    if word[0] == b'#' {
+        return Ok(());
+    }
+    read_words(alloc, side, order, builder, word, rest)
+}

@@ -1,0 +1,78 @@
+use np_grammar::{Page, Plugin};
+use std::marker::Model;
+
+/// A page that keeps every rule of the grammar but the size, seen as the page.
+#[derive(Drop)]
+pub struct PageScript {
+    page: Page,
+}
+
+impl Model for PageScript {
+    ghost use Rattle.np_grammar.specs.declared.page.Page.{Page};
+    ghost use Rattle.np_grammar.specs.Grammar.{KeepsPageRules};
+
+    ghost Value = { Page };
+
+    ghost view = { λ s. s.page };
+
+    ghost invariant = { λ s. KeepsPageRules s.page };
+}
+
+impl PageScript {
+    ghost use Rattle.std.specs.Prelude.{◌≡◌};
+    ghost use Rattle.np_grammar.specs.Grammar.{KeepsPageRules};
+
+    /// A page that keeps the rules.
+    pub fn new(page: Page) -> PageScript
+        requires rules { KeepsPageRules page }
+        ensures same { result ≡ page }
+    {
+        PageScript { page }
+    }
+
+    /// The page.
+    pub fn page(&self) -> &Page
+        ensures same { result.now ≡ self.now }
+        ensures rules { KeepsPageRules self.now }
+    {
+        &self.page
+    }
+}
+
+/// A plug-in that keeps every rule of the grammar but the size, seen as the plug-in.
+#[derive(Drop)]
+pub struct PluginScript {
+    plugin: Plugin,
+}
+
+impl Model for PluginScript {
+    ghost use Rattle.np_grammar.specs.declared.plugin.Plugin.{Plugin};
+    ghost use Rattle.np_grammar.specs.Grammar.{KeepsPluginRules};
+
+    ghost Value = { Plugin };
+
+    ghost view = { λ s. s.plugin };
+
+    ghost invariant = { λ s. KeepsPluginRules s.plugin };
+}
+
+impl PluginScript {
+    ghost use Rattle.std.specs.Prelude.{◌≡◌};
+    ghost use Rattle.np_grammar.specs.Grammar.{KeepsPluginRules};
+
+    /// A plug-in that keeps the rules.
+    pub fn new(plugin: Plugin) -> PluginScript
+        requires rules { KeepsPluginRules plugin }
+        ensures same { result ≡ plugin }
+    {
+        PluginScript { plugin }
+    }
+
+    /// The plug-in.
+    pub fn plugin(&self) -> &Plugin
+        ensures same { result.now ≡ self.now }
+        ensures rules { KeepsPluginRules self.now }
+    {
+        &self.plugin
+    }
+}

@@ -1,0 +1,4 @@
+pub mod CommandLists
+pub mod WellFormed
+pub mod ServedLevels
+pub mod Scripts

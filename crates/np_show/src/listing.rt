@@ -1,0 +1,78 @@
+//! Lists the messages of a file, to the end line.
+
+ghost use Rattle.std.specs.Prelude.{◌≡◌, ◌≢◌, ◌<◌, ◌++◌, IfOk, OnOk, OnErr, string_bytes};
+ghost use Rattle.np_ports.specs.Causes.{Rose};
+ghost use Rattle.np_model.specs.Journal.{end_line};
+ghost use Rattle.np_ending.specs.Causes.{Adds, AddsPart, SinkCause};
+ghost use Rattle.np_show.specs.Listing.{rest_line};
+ghost use Rattle.np_show.specs.Show.{ShowsAll, ShowsPart, ShowCut, IsShowStatus, KeepsFiles, NotesReadOnly};
+ghost use Rattle.np_show.specs.Taking.{outcome_lines, outcome_status};
+
+use crate::outcome::Outcome;
+use crate::reading::show_messages;
+use np_ending::{Stop, finish, finish_refused};
+use np_ports::{Files, Sink};
+use np_transfer::print_all;
+use np_values::NoMemory;
+use std::alloc::Global;
+
+/// The line of the bytes that are left, and the end line of 0.
+fn rest_text(alloc: Global, left: u64) -> Result<String, NoMemory>
+    requires some { 0 < left }
+    ensures text { IfOk result (λ lines. string_bytes lines ≡ rest_line left ++ end_line 0) }
+{
+    let status = 0u8;
+    Ok(format!(in alloc; "rest {left}\nend {status}\n")?)
+}
+
+/// Prints that so many bytes are left, where there are any, and the end line of 0.
+fn finish_rest<O: Sink>(alloc: Global, out: &mut O, left: u64) -> Result<u8, Stop>
+    ensures status { IfOk result (λ s. s ≡ 0) }
+    ensures printed { OnOk result (Adds (O.taken out.old) (O.taken out.new) (rest_line left ++ end_line 0)) }
+    ensures part { OnErr result (AddsPart (O.taken out.old) (O.taken out.new) (rest_line left ++ end_line 0)) }
+    ensures cause { SinkCause (O.faults out.old) (O.faults out.new) result }
+{
+    if left == 0 {
+        return finish(alloc, out, 0);
+    }
+    let lines = rest_text(alloc, left)?;
+    print_all(out, lines.as_bytes())?;
+    Ok(0)
+}
+
+/// Prints the last lines, and answers the status.
+fn finish_listing<O: Sink>(alloc: Global, out: &mut O, outcome: Outcome) -> Result<u8, Stop>
+    ensures status { IfOk result (λ s. s ≡ outcome_status outcome) }
+    ensures printed { OnOk result (Adds (O.taken out.old) (O.taken out.new) (outcome_lines outcome)) }
+    ensures part { OnErr result (AddsPart (O.taken out.old) (O.taken out.new) (outcome_lines outcome)) }
+    ensures cause { SinkCause (O.faults out.old) (O.faults out.new) result }
+{
+    match outcome {
+        Outcome::Ended(left) => finish_rest(alloc, out, left),
+        Outcome::Refused(refusal) => finish_refused(alloc, out, refusal),
+        Outcome::FileFailed => finish(alloc, out, 4),
+    }
+}
+
+/// Lists the messages of the named file of wire bytes, and answers the status: 0, 7 at a message that is
+/// refused, 4 where a read of the file failed. It reads in pieces and keeps less than two messages of the file.
+/// This project's own.
+pub fn show<F: Files, O: Sink>(
+    alloc: Global,
+    name: &str,
+    files: &mut F,
+    out: &mut O,
+) -> Result<u8, Stop>
+    ensures shown { IfOk result (λ status. status ≢ 4 → ShowsAll name.now (F.contents files.old) (O.taken out.old) (O.taken out.new) status) }
+    ensures part { IfOk result (λ status. status ≡ 4 → ShowsPart name.now (F.contents files.old) (O.taken out.old) (O.taken out.new)) }
+    ensures cut { OnErr result (ShowCut name.now (Rose (F.faults files.old) (F.faults files.new)) (F.contents files.old) (O.taken out.old) (O.taken out.new)) }
+    ensures listed { IfOk result (λ status. IsShowStatus status) }
+    ensures file { IfOk result (λ status. status ≡ 4 → Rose (F.faults files.old) (F.faults files.new)) }
+    ensures sink { SinkCause (O.faults out.old) (O.faults out.new) result }
+    ensures files { KeepsFiles (F.contents files.old) (F.contents files.new) }
+    ensures failed_calls { NotesReadOnly name.now (F.failed_calls files.old) (F.failed_calls files.new) }
+{
+    let outcome = show_messages(alloc, name, files, out)?;
+    let status = finish_listing(alloc, out, outcome)?;
+    Ok(status)
+}

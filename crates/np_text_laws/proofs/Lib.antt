@@ -1,0 +1,5 @@
+pub mod TextLines
+pub mod OneSet
+pub mod Refused
+pub mod OwnText
+pub mod OneError

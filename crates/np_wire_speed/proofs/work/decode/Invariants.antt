@@ -1,0 +1,5 @@
+use Rattle.std.proofs.Common.{◌+◌, ◌*◌, ◌≤◌, length}
+use Rattle.np_wire_speed.proofs.work.decode.Given as goal
+
+abbrev pub invariant-loop : goal.invariant-loop
+invariant-loop l = l.feed.consumed + length l.feed.left ≤ 65536 * l.counter
