@@ -14,41 +14,67 @@ fn named(alloc: Global, name: &[u8]) -> Result<Fields, OrderError> {
     Ok(fields)
 }
 
+/// Goes on behind lines that have no fields.
+fn accept_plain(alloc: Global, order: &mut Order, words: &[&[u8]]) -> Result<(), OrderError> {
+    for word in words {
+        order.accept(word, &Fields::new(alloc))?;
+    }
+    Ok(())
+}
+
+/// Goes on behind a line of this word and this name.
+fn accept_named(
+    alloc: Global,
+    order: &mut Order,
+    word: &[u8],
+    name: &[u8],
+) -> Result<(), OrderError> {
+    order.accept(word, &named(alloc, name)?)
+}
+
+#[test]
+fn a_class_has_one_default(rt: HostRuntime) -> Result<(), Fail> {
+    let alloc = rt.alloc();
+    let mut order = Order::new(alloc);
+    accept_plain(alloc, &mut order, &[b"page"])?;
+    accept_named(alloc, &mut order, b"class", b"A")?;
+    accept_plain(alloc, &mut order, &[b"default"])?;
+    assert!(rt; order.place() == Place::MemberBody);
+    accept_plain(alloc, &mut order, &[b"end"])?;
+    assert!(rt; accept_plain(alloc, &mut order, &[b"default"]) == Err(OrderError::Twice));
+    Ok(())
+}
+
 #[test]
 fn a_class_of_that_name_is_there(rt: HostRuntime) -> Result<(), Fail> {
     let alloc = rt.alloc();
-    let none = Fields::new(alloc);
     let mut order = Order::new(alloc);
-    order.accept(b"page", &none)?;
-    order.accept(b"class", &named(alloc, b"A")?)?;
-    order.accept(b"default", &none)?;
-    assert!(rt; order.place() == Place::MemberBody);
-    order.accept(b"end", &none)?;
-    assert!(rt; order.accept(b"default", &none) == Err(OrderError::Twice));
-    order.accept(b"endclass", &none)?;
-    assert!(rt; order.accept(b"class", &named(alloc, b"A")?) == Err(OrderError::Twice));
-    order.accept(b"class", &named(alloc, b"B")?)?;
-    order.accept(b"default", &none)?;
+    accept_plain(alloc, &mut order, &[b"page"])?;
+    accept_named(alloc, &mut order, b"class", b"A")?;
+    accept_plain(alloc, &mut order, &[b"default", b"end", b"endclass"])?;
+    assert!(rt; accept_named(alloc, &mut order, b"class", b"A") == Err(OrderError::Twice));
+    accept_named(alloc, &mut order, b"class", b"B")?;
+    accept_plain(alloc, &mut order, &[b"default"])?;
     Ok(())
 }
 
 #[test]
 fn a_body_has_256_actions(rt: HostRuntime) -> Result<(), Fail> {
     let alloc = rt.alloc();
-    let none = Fields::new(alloc);
     let mut order = Order::new(alloc);
-    order.accept(b"plugin", &none)?;
-    order.accept(b"task", &named(alloc, b"t")?)?;
+    accept_plain(alloc, &mut order, &[b"plugin"])?;
+    accept_named(alloc, &mut order, b"task", b"t")?;
     for _ in 0..256u32 {
-        order.accept(b"fail", &none)?;
+        accept_plain(alloc, &mut order, &[b"fail"])?;
     }
-    assert!(rt; order.accept(b"fail", &none) == Err(OrderError::Limit));
-    order.accept(b"end", &none)?;
+    assert!(rt; accept_plain(alloc, &mut order, &[b"fail"]) == Err(OrderError::Limit));
+    accept_plain(alloc, &mut order, &[b"end"])?;
     assert!(rt; order.place() == Place::Top);
     Ok(())
 }
 
-fn resource(alloc: Global, times: u32) -> Result<Fields, OrderError> {
+/// Goes on behind a resource of a piece of 8 bytes that comes so often.
+fn accept_resource(alloc: Global, order: &mut Order, times: u32) -> Result<(), OrderError> {
     let mut fields = named(alloc, b"u")?;
     let Ok(mime) = Text::new(alloc, b"text/plain") else {
         return Err(OrderError::NoMemory);
@@ -59,7 +85,7 @@ fn resource(alloc: Global, times: u32) -> Result<Fields, OrderError> {
     fields.push(Field::Text(mime))?;
     fields.push(Field::Number(times))?;
     fields.push(Field::Text(piece))?;
-    Ok(fields)
+    order.accept(b"resource", &fields)
 }
 
 // A limit comes before a second declaration. 2,097,152 times 8 bytes are 16,777,216.
@@ -67,10 +93,10 @@ fn resource(alloc: Global, times: u32) -> Result<Fields, OrderError> {
 fn resources_have_16777216_bytes(rt: HostRuntime) -> Result<(), Fail> {
     let alloc = rt.alloc();
     let mut order = Order::new(alloc);
-    order.accept(b"page", &Fields::new(alloc))?;
-    assert!(rt; order.accept(b"resource", &resource(alloc, 2097153)?) == Err(OrderError::Limit));
-    order.accept(b"resource", &resource(alloc, 2097152)?)?;
-    assert!(rt; order.accept(b"resource", &resource(alloc, 1)?) == Err(OrderError::Limit));
-    assert!(rt; order.accept(b"resource", &resource(alloc, 0)?) == Err(OrderError::Twice));
+    accept_plain(alloc, &mut order, &[b"page"])?;
+    assert!(rt; accept_resource(alloc, &mut order, 2097153) == Err(OrderError::Limit));
+    accept_resource(alloc, &mut order, 2097152)?;
+    assert!(rt; accept_resource(alloc, &mut order, 1) == Err(OrderError::Limit));
+    assert!(rt; accept_resource(alloc, &mut order, 0) == Err(OrderError::Twice));
     Ok(())
 }

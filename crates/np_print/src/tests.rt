@@ -57,29 +57,72 @@ fn are_commands<const N: usize>(
     Ok(out.as_slice() == lines.as_bytes())
 }
 
+/// Whether these parts, joined, are this text.
+fn is_joined(alloc: Global, parts: &[&str], text: &[u8]) -> Result<bool, Fail> {
+    let mut joined = Vec::new(alloc);
+    for part in parts {
+        joined.extend_from_slice(part.as_bytes())?;
+    }
+    Ok(joined.as_slice() == text)
+}
+
 #[test]
-fn actions_without_calls(rt: HostRuntime) -> Result<(), Fail> {
-    let alloc = rt.alloc();
+fn actions_on_registers_and_slots(rt: HostRuntime) -> Result<(), Fail> {
     let double = [64, 9, 33, 251, 84, 68, 45, 24];
     let actions = [
         Action::Set(0, Operand::Const(Value::Double(double))),
         Action::Add(15, Operand::Reg(1), int(-2147483648)),
-        Action::Fail,
-        Action::Return(Operand::Const(Value::Void)),
-        Action::Throw(text(alloc, "a \"b\" \\\n")?),
-        Action::New(3, text(alloc, "Box")?),
         Action::Drop(4),
         Action::Slot(7, Operand::Const(Value::Null)),
         Action::Load(5, 0),
         Action::SelfTo(6),
         Action::Note(Operand::Const(Value::Bool(true))),
+    ];
+    let lines =
+        "set $0 d:400921fb54442d18\nadd $15 $1 -2147483648\ndrop $4\nslot 7 null\nload $5 0\n\
+        self $6\nnote true\n";
+    assert!(rt; are_actions(rt.alloc(), actions, lines)?);
+    Ok(())
+}
+
+#[test]
+fn actions_with_texts(rt: HostRuntime) -> Result<(), Fail> {
+    let alloc = rt.alloc();
+    let thrown = text(alloc, "a \"b\" \\\n")?;
+    let class = text(alloc, "Box")?;
+    let actions = [Action::Throw(thrown), Action::New(3, class)];
+    let lines = "throw \"a \\\"b\\\" \\\\\\x0a\"\nnew $3 \"Box\"\n";
+    assert!(rt; are_actions(alloc, actions, lines)?);
+    Ok(())
+}
+
+#[test]
+fn actions_that_leave_or_skip(rt: HostRuntime) -> Result<(), Fail> {
+    let alloc = rt.alloc();
+    let empty = quoted(alloc, "")?;
+    let actions = [
+        Action::Fail,
+        Action::Return(Operand::Const(Value::Void)),
         Action::OnTrue(1),
         Action::OnFalse(255),
-        Action::OnEq(Operand::Const(Value::Bool(false)), quoted(alloc, "")?, 2),
+        Action::OnEq(Operand::Const(Value::Bool(false)), empty, 2),
     ];
-    let lines = "set $0 d:400921fb54442d18\nadd $15 $1 -2147483648\nfail\nreturn void\n\
-        throw \"a \\\"b\\\" \\\\\\x0a\"\nnew $3 \"Box\"\ndrop $4\nslot 7 null\nload $5 0\nself $6\nnote true\n\
-        ontrue 1\nonfalse 255\noneq false \"\" 2\n";
+    let lines = "fail\nreturn void\nontrue 1\nonfalse 255\noneq false \"\" 2\n";
+    assert!(rt; are_actions(alloc, actions, lines)?);
+    Ok(())
+}
+
+#[test]
+fn actions_that_call_methods(rt: HostRuntime) -> Result<(), Fail> {
+    let alloc = rt.alloc();
+    let name = key(alloc, "go on")?;
+    let letter = quoted(alloc, "x")?;
+    let arguments = seq(alloc, [int(0), letter])?;
+    let actions = [
+        Action::Invoke(0, Operand::Reg(1), name, arguments),
+        Action::Invoke(0, Operand::Reg(1), IdKey::Int(-5), Operands::new(alloc)),
+    ];
+    let lines = "invoke $0 $1 \"go on\" 0 \"x\"\ninvoke $0 $1 -5\n";
     assert!(rt; are_actions(alloc, actions, lines)?);
     Ok(())
 }
@@ -87,49 +130,57 @@ fn actions_without_calls(rt: HostRuntime) -> Result<(), Fail> {
 #[test]
 fn actions_that_call_objects(rt: HostRuntime) -> Result<(), Fail> {
     let alloc = rt.alloc();
+    let arguments = seq(alloc, [Operand::Reg(4)])?;
     let actions = [
-        Action::Invoke(
-            0,
-            Operand::Reg(1),
-            key(alloc, "go on")?,
-            seq(alloc, [int(0), quoted(alloc, "x")?])?,
-        ),
-        Action::Invoke(0, Operand::Reg(1), IdKey::Int(-5), Operands::new(alloc)),
-        Action::CallDefault(2, Operand::Reg(3), seq(alloc, [Operand::Reg(4)])?),
+        Action::CallDefault(2, Operand::Reg(3), arguments),
         Action::Construct(2, Operand::Reg(3), Operands::new(alloc)),
-        Action::Get(4, Operand::Reg(5), IdKey::Int(12)),
-        Action::Put(Operand::Reg(6), key(alloc, "12")?, int(12)),
-        Action::Remove(Operand::Reg(7), key(alloc, "a")?),
-        Action::HasMethod(Operand::Reg(8), key(alloc, "b")?),
-        Action::HasProperty(Operand::Reg(9), key(alloc, "c")?),
         Action::Enumerate(10, Operand::Reg(11)),
     ];
-    let lines =
-        "invoke $0 $1 \"go on\" 0 \"x\"\ninvoke $0 $1 -5\ncalldef $2 $3 $4\nconstruct $2 $3\nget $4 $5 12\n\
-        put $6 \"12\" 12\nremove $7 \"a\"\nhasm $8 \"b\"\nhasp $9 \"c\"\nenum $10 $11\n";
+    let lines = "calldef $2 $3 $4\nconstruct $2 $3\nenum $10 $11\n";
     assert!(rt; are_actions(alloc, actions, lines)?);
     Ok(())
 }
 
 #[test]
+fn actions_on_properties(rt: HostRuntime) -> Result<(), Fail> {
+    let alloc = rt.alloc();
+    let twelve = key(alloc, "12")?;
+    let a = key(alloc, "a")?;
+    let actions = [
+        Action::Get(4, Operand::Reg(5), IdKey::Int(12)),
+        Action::Put(Operand::Reg(6), twelve, int(12)),
+        Action::Remove(Operand::Reg(7), a),
+        Action::HasMethod(Operand::Reg(8), IdKey::Int(1)),
+        Action::HasProperty(Operand::Reg(9), IdKey::Int(2)),
+    ];
+    let lines = "get $4 $5 12\nput $6 \"12\" 12\nremove $7 \"a\"\nhasm $8 1\nhasp $9 2\n";
+    assert!(rt; are_actions(alloc, actions, lines)?);
+    Ok(())
+}
+
+const RANGES: [Range; 2] = [
+    Range {
+        offset: -16,
+        length: 4294967295,
+    },
+    Range {
+        offset: 0,
+        length: 1,
+    },
+];
+
+#[test]
 fn actions_of_one_side(rt: HostRuntime) -> Result<(), Fail> {
     let alloc = rt.alloc();
-    let ranges = [
-        Range {
-            offset: -16,
-            length: 4294967295,
-        },
-        Range {
-            offset: 0,
-            length: 1,
-        },
-    ];
+    let url = quoted(alloc, "http://x/")?;
+    let task = text(alloc, "tick")?;
+    let ranges = seq(alloc, RANGES)?;
     let actions = [
         Action::Window(0),
-        Action::GetUrl(1, quoted(alloc, "http://x/")?, -1),
-        Action::RequestRead(2, int(1), seq(alloc, ranges)?),
+        Action::GetUrl(1, url, -1),
+        Action::RequestRead(2, int(1), ranges),
         Action::EndStream(3, Operand::Reg(2), NpReason::UserBreak),
-        Action::Later(text(alloc, "tick")?),
+        Action::Later(task),
         Action::Exit(63),
         Action::Destroy(4, 255),
     ];
@@ -141,33 +192,52 @@ fn actions_of_one_side(rt: HostRuntime) -> Result<(), Fail> {
 }
 
 #[test]
+fn create_without_attributes(rt: HostRuntime) -> Result<(), Fail> {
+    let alloc = rt.alloc();
+    let mime = text(alloc, "a/b")?;
+    let create = Command::Create {
+        mime,
+        mode: 1,
+        attributes: Texts::new(alloc),
+    };
+    assert!(rt; are_commands(alloc, [create], "create \"a/b\" embed\n")?);
+    Ok(())
+}
+
+#[test]
+fn create_with_attributes(rt: HostRuntime) -> Result<(), Fail> {
+    let alloc = rt.alloc();
+    let mime = text(alloc, "a/b")?;
+    let name = text(alloc, "src")?;
+    let value = text(alloc, "a b")?;
+    let attributes = seq(alloc, [name, value])?;
+    let create = Command::Create {
+        mime,
+        mode: 2,
+        attributes,
+    };
+    assert!(rt; are_commands(alloc, [create], "create \"a/b\" full \"src\" \"a b\"\n")?);
+    Ok(())
+}
+
+#[test]
 fn commands_of_a_page(rt: HostRuntime) -> Result<(), Fail> {
     let alloc = rt.alloc();
-    let attributes = [text(alloc, "src")?, text(alloc, "a b")?];
+    let class = text(alloc, "Box")?;
+    let url = text(alloc, "http://x/")?;
     let commands = [
-        Command::Create {
-            mime: text(alloc, "a/b")?,
-            mode: 1,
-            attributes: Texts::new(alloc),
-        },
-        Command::Create {
-            mime: text(alloc, "a/b")?,
-            mode: 2,
-            attributes: seq(alloc, attributes)?,
-        },
         Command::Destroy(1),
         Command::Scriptable(2, 3),
-        Command::New(4, 5, text(alloc, "Box")?),
+        Command::New(4, 5, class),
         Command::Turn,
-        Command::OpenStream(255, text(alloc, "http://x/")?),
+        Command::OpenStream(255, url),
         Command::Pump(100_000),
         Command::Set(0, int(7)),
         Command::Drop(1),
         Command::Note(Operand::Reg(15)),
     ];
-    let lines =
-        "create \"a/b\" embed\ncreate \"a/b\" full \"src\" \"a b\"\ndestroy 1\nscriptable $2 3\n\
-        new $4 5 \"Box\"\nturn\nopen 255 \"http://x/\"\npump 100000\nset $0 7\ndrop $1\nnote $15\n";
+    let lines = "destroy 1\nscriptable $2 3\nnew $4 5 \"Box\"\nturn\nopen 255 \"http://x/\"\n\
+        pump 100000\nset $0 7\ndrop $1\nnote $15\n";
     assert!(rt; are_commands(alloc, commands, lines)?);
     Ok(())
 }
@@ -175,46 +245,56 @@ fn commands_of_a_page(rt: HostRuntime) -> Result<(), Fail> {
 #[test]
 fn commands_that_call_objects(rt: HostRuntime) -> Result<(), Fail> {
     let alloc = rt.alloc();
+    let name = key(alloc, "go")?;
+    let invoked_with = seq(alloc, [int(1), int(2)])?;
+    let called_with = seq(alloc, [Operand::Reg(4)])?;
+    let constructed_with = seq(alloc, [int(9)])?;
     let commands = [
-        Command::Invoke(
-            0,
-            Operand::Reg(1),
-            key(alloc, "go")?,
-            seq(alloc, [int(1), int(2)])?,
-        ),
-        Command::CallDefault(2, Operand::Reg(3), seq(alloc, [Operand::Reg(4)])?),
-        Command::Construct(2, Operand::Reg(3), seq(alloc, [int(9)])?),
-        Command::Get(4, Operand::Reg(5), IdKey::Int(12)),
-        Command::Put(Operand::Reg(6), key(alloc, "12")?, int(12)),
-        Command::Remove(Operand::Reg(7), key(alloc, "a")?),
-        Command::HasMethod(Operand::Reg(8), key(alloc, "b")?),
-        Command::HasProperty(Operand::Reg(9), key(alloc, "c")?),
+        Command::Invoke(0, Operand::Reg(1), name, invoked_with),
+        Command::CallDefault(2, Operand::Reg(3), called_with),
+        Command::Construct(2, Operand::Reg(3), constructed_with),
         Command::Enumerate(10, Operand::Reg(11)),
     ];
-    let lines =
-        "invoke $0 $1 \"go\" 1 2\ncalldef $2 $3 $4\nconstruct $2 $3 9\nget $4 $5 12\nput $6 \"12\" 12\n\
-        remove $7 \"a\"\nhasm $8 \"b\"\nhasp $9 \"c\"\nenum $10 $11\n";
+    let lines = "invoke $0 $1 \"go\" 1 2\ncalldef $2 $3 $4\nconstruct $2 $3 9\nenum $10 $11\n";
+    assert!(rt; are_commands(alloc, commands, lines)?);
+    Ok(())
+}
+
+#[test]
+fn commands_on_properties(rt: HostRuntime) -> Result<(), Fail> {
+    let alloc = rt.alloc();
+    let twelve = key(alloc, "12")?;
+    let a = key(alloc, "a")?;
+    let commands = [
+        Command::Get(4, Operand::Reg(5), IdKey::Int(12)),
+        Command::Put(Operand::Reg(6), twelve, int(12)),
+        Command::Remove(Operand::Reg(7), a),
+        Command::HasMethod(Operand::Reg(8), IdKey::Int(1)),
+        Command::HasProperty(Operand::Reg(9), IdKey::Int(2)),
+    ];
+    let lines = "get $4 $5 12\nput $6 \"12\" 12\nremove $7 \"a\"\nhasm $8 1\nhasp $9 2\n";
     assert!(rt; are_commands(alloc, commands, lines)?);
     Ok(())
 }
 
 /// A class with a member of each kind.
 fn class(alloc: Global) -> Result<ClassDef, Fail> {
+    let go = key(alloc, "go")?;
+    let body = seq(alloc, [Action::Return(Operand::Reg(0)), Action::Fail])?;
+    let x = key(alloc, "x")?;
     let members = [
-        Member::Method(
-            key(alloc, "go")?,
-            seq(alloc, [Action::Return(Operand::Reg(0)), Action::Fail])?,
-        ),
+        Member::Method(go, body),
         Member::Default(Body::new(alloc)),
         Member::Construct(Body::new(alloc)),
         Member::Getter(IdKey::Int(0), Body::new(alloc)),
-        Member::Setter(key(alloc, "x")?, Body::new(alloc)),
+        Member::Setter(x, Body::new(alloc)),
     ];
+    let members = seq(alloc, members)?;
     Ok(ClassDef {
         name: text(alloc, "Box")?,
         version: 3,
         stored: true,
-        members: seq(alloc, members)?,
+        members,
     })
 }
 
@@ -222,71 +302,95 @@ const CLASS: &str =
     "class \"Box\" 3\ndata\nmethod \"go\"\nreturn $0\nfail\nend\ndefault\nend\nconstruct\nend\n\
     getter 0\nend\nsetter \"x\"\nend\nendclass\n";
 
-#[test]
-fn whole_page(rt: HostRuntime) -> Result<(), Fail> {
-    let alloc = rt.alloc();
+/// A page with a class of each kind, a resource and two commands.
+fn page(alloc: Global) -> Result<Page, Fail> {
     let plain = ClassDef {
         name: text(alloc, "Plain")?,
         version: 1,
         stored: false,
         members: Members::new(alloc),
     };
+    let url = text(alloc, "http://x/")?;
+    let mime = text(alloc, "text/plain")?;
     let resource = Resource {
-        url: text(alloc, "http://x/")?,
-        mime: text(alloc, "text/plain")?,
+        url,
+        mime,
         times: 3,
         piece: text(alloc, "ab")?,
         content: Bytes::new(alloc),
     };
-    let page = Page {
+    let classes = seq(alloc, [class(alloc)?, plain])?;
+    let resources = seq(alloc, [resource])?;
+    let commands = seq(alloc, [Command::Turn, Command::Pump(1)])?;
+    Ok(Page {
         major: 0,
         minor: 27,
-        classes: seq(alloc, [class(alloc)?, plain])?,
-        resources: seq(alloc, [resource])?,
-        commands: seq(alloc, [Command::Turn, Command::Pump(1)])?,
-    };
+        classes,
+        resources,
+        commands,
+    })
+}
+
+const PAGE_HEAD: &str = "before\npage 0 27\n";
+
+const PAGE_REST: &str =
+    "class \"Plain\" 1\nendclass\nresource \"http://x/\" \"text/plain\" 3 \"ab\"\n\
+    do\nturn\npump 1\n";
+
+#[test]
+fn whole_page(rt: HostRuntime) -> Result<(), Fail> {
+    let alloc = rt.alloc();
+    let page = page(alloc)?;
     let mut out = Vec::new(alloc);
     out.extend_from_slice(b"before\n")?;
     print_page(&page, &mut out)?;
-    let mut want = Vec::new(alloc);
-    want.extend_from_slice(b"before\npage 0 27\n")?;
-    want.extend_from_slice(CLASS.as_bytes())?;
-    want.extend_from_slice(b"class \"Plain\" 1\nendclass\n")?;
-    want.extend_from_slice(b"resource \"http://x/\" \"text/plain\" 3 \"ab\"\ndo\nturn\npump 1\n")?;
-    assert!(rt; out.as_slice() == want.as_slice());
+    assert!(rt; is_joined(alloc, &[PAGE_HEAD, CLASS, PAGE_REST], out.as_slice())?);
     Ok(())
 }
 
-#[test]
-fn whole_plugin(rt: HostRuntime) -> Result<(), Fail> {
-    let alloc = rt.alloc();
+/// A plug-in with a class, two handlers and a task.
+fn plugin(alloc: Global) -> Result<Plugin, Fail> {
+    let answer = seq(alloc, [Action::Return(int(0))])?;
     let new = HandlerDef {
         which: Handler::New,
-        body: seq(alloc, [Action::Return(int(0))])?,
+        body: answer,
     };
     let write = HandlerDef {
         which: Handler::Write,
         body: Body::new(alloc),
     };
+    let name = text(alloc, "tick")?;
     let task = TaskDef {
-        name: text(alloc, "tick")?,
+        name,
         body: seq(alloc, [Action::Fail])?,
     };
-    let plugin = Plugin {
+    let classes = seq(alloc, [class(alloc)?])?;
+    let handlers = seq(alloc, [new, write])?;
+    let tasks = seq(alloc, [task])?;
+    Ok(Plugin {
         major: 255,
         minor: 0,
-        classes: seq(alloc, [class(alloc)?])?,
-        handlers: seq(alloc, [new, write])?,
-        tasks: seq(alloc, [task])?,
-    };
+        classes,
+        handlers,
+        tasks,
+    })
+}
+
+const PLUGIN_REST: &str =
+    "handler new\nreturn 0\nend\nhandler write\nend\ntask \"tick\"\nfail\nend\n";
+
+#[test]
+fn whole_plugin(rt: HostRuntime) -> Result<(), Fail> {
+    let alloc = rt.alloc();
+    let plugin = plugin(alloc)?;
     let mut out = Vec::new(alloc);
     print_plugin(&plugin, &mut out)?;
-    let mut want = Vec::new(alloc);
-    want.extend_from_slice(b"plugin 255 0\n")?;
-    want.extend_from_slice(CLASS.as_bytes())?;
-    want.extend_from_slice(
-        b"handler new\nreturn 0\nend\nhandler write\nend\ntask \"tick\"\nfail\nend\n",
-    )?;
-    assert!(rt; out.as_slice() == want.as_slice());
+    assert!(rt;
+        is_joined(
+            alloc,
+            &["plugin 255 0\n", CLASS, PLUGIN_REST],
+            out.as_slice()
+        )?
+    );
     Ok(())
 }

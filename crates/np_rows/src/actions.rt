@@ -158,30 +158,40 @@ pub fn action(alloc: Global, word: &[u8], fields: Fields) -> Result<Option<Actio
     ensures value { Gives result (action_of word.now fields) }
 {
     if word == b"set".as_slice() {
-        Ok(set(fields))
-    } else if word == b"drop".as_slice() {
-        Ok(drop(fields))
-    } else if word == b"invoke".as_slice() {
-        invoke(alloc, fields)
-    } else if word == b"calldef".as_slice() {
-        call_default(alloc, fields)
-    } else if word == b"construct".as_slice() {
-        construct(alloc, fields)
-    } else if word == b"get".as_slice() {
-        Ok(get(fields))
-    } else if word == b"put".as_slice() {
-        Ok(put(fields))
-    } else if word == b"remove".as_slice() {
-        Ok(remove(fields))
-    } else if word == b"hasm".as_slice() {
-        Ok(has_method(fields))
-    } else if word == b"hasp".as_slice() {
-        Ok(has_property(fields))
-    } else if word == b"enum".as_slice() {
-        Ok(enumerate(fields))
-    } else if word == b"note".as_slice() {
-        Ok(note(fields))
-    } else {
-        plain_action(alloc, word, fields)
+        return Ok(set(fields));
     }
+    if word == b"drop".as_slice() {
+        return Ok(drop(fields));
+    }
+    if word == b"invoke".as_slice() {
+        return invoke(alloc, fields);
+    }
+    if word == b"calldef".as_slice() {
+        return call_default(alloc, fields);
+    }
+    if word == b"construct".as_slice() {
+        return construct(alloc, fields);
+    }
+    if word == b"get".as_slice() {
+        return Ok(get(fields));
+    }
+    if word == b"put".as_slice() {
+        return Ok(put(fields));
+    }
+    if word == b"remove".as_slice() {
+        return Ok(remove(fields));
+    }
+    if word == b"hasm".as_slice() {
+        return Ok(has_method(fields));
+    }
+    if word == b"hasp".as_slice() {
+        return Ok(has_property(fields));
+    }
+    if word == b"enum".as_slice() {
+        return Ok(enumerate(fields));
+    }
+    if word == b"note".as_slice() {
+        return Ok(note(fields));
+    }
+    plain_action(alloc, word, fields)
 }

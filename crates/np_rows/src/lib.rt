@@ -1,4 +1,6 @@
 //! The actions and commands of scripts, row by row: from the fields of a line, and back.
+//!
+//! A row whose word fits returns at once: the value of an `if` within an `if` would be moved once for each of them.
 #![tactic(auto)]
 
 mod actions;

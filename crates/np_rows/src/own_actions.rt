@@ -91,20 +91,25 @@ pub fn own_action(alloc: Global, word: &[u8], fields: Fields) -> Result<Option<A
     ensures value { Gives result (said_by own_rows word.now fields) }
 {
     if word == b"window".as_slice() {
-        Ok(window(fields))
-    } else if word == b"geturl".as_slice() {
-        Ok(get_url(fields))
-    } else if word == b"reqread".as_slice() {
-        request_read(alloc, fields)
-    } else if word == b"endstream".as_slice() {
-        Ok(end_stream(fields))
-    } else if word == b"later".as_slice() {
-        Ok(later(fields))
-    } else if word == b"destroy".as_slice() {
-        Ok(destroy(fields))
-    } else if word == b"exit".as_slice() {
-        Ok(exit(fields))
-    } else {
-        Ok(None)
+        return Ok(window(fields));
     }
+    if word == b"geturl".as_slice() {
+        return Ok(get_url(fields));
+    }
+    if word == b"reqread".as_slice() {
+        return request_read(alloc, fields);
+    }
+    if word == b"endstream".as_slice() {
+        return Ok(end_stream(fields));
+    }
+    if word == b"later".as_slice() {
+        return Ok(later(fields));
+    }
+    if word == b"destroy".as_slice() {
+        return Ok(destroy(fields));
+    }
+    if word == b"exit".as_slice() {
+        return Ok(exit(fields));
+    }
+    Ok(None)
 }

@@ -93,20 +93,25 @@ pub fn page_command(alloc: Global, word: &[u8], fields: Fields) -> Result<Option
     ensures value { Gives result (said_by page_rows word.now fields) }
 {
     if word == b"create".as_slice() {
-        create(alloc, fields)
-    } else if word == b"destroy".as_slice() {
-        Ok(destroy(fields))
-    } else if word == b"scriptable".as_slice() {
-        Ok(scriptable(fields))
-    } else if word == b"new".as_slice() {
-        Ok(new(fields))
-    } else if word == b"turn".as_slice() {
-        Ok(turn(fields))
-    } else if word == b"open".as_slice() {
-        Ok(open_stream(fields))
-    } else if word == b"pump".as_slice() {
-        Ok(pump(fields))
-    } else {
-        Ok(None)
+        return create(alloc, fields);
     }
+    if word == b"destroy".as_slice() {
+        return Ok(destroy(fields));
+    }
+    if word == b"scriptable".as_slice() {
+        return Ok(scriptable(fields));
+    }
+    if word == b"new".as_slice() {
+        return Ok(new(fields));
+    }
+    if word == b"turn".as_slice() {
+        return Ok(turn(fields));
+    }
+    if word == b"open".as_slice() {
+        return Ok(open_stream(fields));
+    }
+    if word == b"pump".as_slice() {
+        return Ok(pump(fields));
+    }
+    Ok(None)
 }

@@ -122,28 +122,37 @@ pub fn plain_action(alloc: Global, word: &[u8], fields: Fields) -> Result<Option
     ensures value { Gives result (said_by plain_rows word.now fields) }
 {
     if word == b"add".as_slice() {
-        Ok(add(fields))
-    } else if word == b"fail".as_slice() {
-        Ok(fail(fields))
-    } else if word == b"return".as_slice() {
-        Ok(return_value(fields))
-    } else if word == b"throw".as_slice() {
-        Ok(throw(fields))
-    } else if word == b"new".as_slice() {
-        Ok(new(fields))
-    } else if word == b"slot".as_slice() {
-        Ok(slot(fields))
-    } else if word == b"load".as_slice() {
-        Ok(load(fields))
-    } else if word == b"self".as_slice() {
-        Ok(self_to(fields))
-    } else if word == b"ontrue".as_slice() {
-        Ok(on_true(fields))
-    } else if word == b"onfalse".as_slice() {
-        Ok(on_false(fields))
-    } else if word == b"oneq".as_slice() {
-        Ok(on_equal(fields))
-    } else {
-        own_action(alloc, word, fields)
+        return Ok(add(fields));
     }
+    if word == b"fail".as_slice() {
+        return Ok(fail(fields));
+    }
+    if word == b"return".as_slice() {
+        return Ok(return_value(fields));
+    }
+    if word == b"throw".as_slice() {
+        return Ok(throw(fields));
+    }
+    if word == b"new".as_slice() {
+        return Ok(new(fields));
+    }
+    if word == b"slot".as_slice() {
+        return Ok(slot(fields));
+    }
+    if word == b"load".as_slice() {
+        return Ok(load(fields));
+    }
+    if word == b"self".as_slice() {
+        return Ok(self_to(fields));
+    }
+    if word == b"ontrue".as_slice() {
+        return Ok(on_true(fields));
+    }
+    if word == b"onfalse".as_slice() {
+        return Ok(on_false(fields));
+    }
+    if word == b"oneq".as_slice() {
+        return Ok(on_equal(fields));
+    }
+    own_action(alloc, word, fields)
 }

@@ -15,7 +15,7 @@ fn fields<const N: usize>(alloc: Global, given: [Field; N]) -> Result<Fields, No
 }
 
 #[test]
-fn lines_of_actions(rt: HostRuntime) -> Result<(), Fail> {
+fn set_takes_a_register_and_an_operand(rt: HostRuntime) -> Result<(), Fail> {
     let alloc = rt.alloc();
     let set = fields(
         alloc,
@@ -30,6 +30,12 @@ fn lines_of_actions(rt: HostRuntime) -> Result<(), Fail> {
             Some(Action::Set(1, Operand::Const(Value::Int(-7))))
         )
     );
+    Ok(())
+}
+
+#[test]
+fn endstream_takes_a_reason(rt: HostRuntime) -> Result<(), Fail> {
+    let alloc = rt.alloc();
     let end_stream = fields(
         alloc,
         [
@@ -44,6 +50,12 @@ fn lines_of_actions(rt: HostRuntime) -> Result<(), Fail> {
             Some(Action::EndStream(2, Operand::Reg(3), NpReason::NetworkErr))
         )
     );
+    Ok(())
+}
+
+#[test]
+fn invoke_takes_its_arguments(rt: HostRuntime) -> Result<(), Fail> {
+    let alloc = rt.alloc();
     let invoke = fields(
         alloc,
         [
@@ -60,24 +72,37 @@ fn lines_of_actions(rt: HostRuntime) -> Result<(), Fail> {
         }
         _ => assert!(rt; false),
     }
+    Ok(())
+}
+
+#[test]
+fn no_action_has_that_word_or_those_fields(rt: HostRuntime) -> Result<(), Fail> {
+    let alloc = rt.alloc();
     assert!(rt; action(alloc, b"turn", Fields::new(alloc))?.is_none());
     assert!(rt; action(alloc, b"return", Fields::new(alloc))?.is_none());
     Ok(())
 }
 
-#[test]
-fn lines_of_commands(rt: HostRuntime) -> Result<(), Fail> {
-    let alloc = rt.alloc();
-    let create = fields(
+/// A type, a mode, and one attribute with its value.
+fn of_create(alloc: Global) -> Result<Fields, Fail> {
+    let mime = Text::new(alloc, b"t/x")?;
+    let name = Text::new(alloc, b"n")?;
+    let value = Text::new(alloc, b"v")?;
+    Ok(fields(
         alloc,
         [
-            Field::Text(Text::new(alloc, b"t/x")?),
+            Field::Text(mime),
             Field::Mode(1),
-            Field::Text(Text::new(alloc, b"n")?),
-            Field::Text(Text::new(alloc, b"v")?),
+            Field::Text(name),
+            Field::Text(value),
         ],
-    )?;
-    match command(alloc, b"create", create)? {
+    )?)
+}
+
+#[test]
+fn create_takes_its_attributes(rt: HostRuntime) -> Result<(), Fail> {
+    let alloc = rt.alloc();
+    match command(alloc, b"create", of_create(alloc)?)? {
         Some(
             Command::Create {
                 mime,
@@ -90,6 +115,12 @@ fn lines_of_commands(rt: HostRuntime) -> Result<(), Fail> {
         }
         _ => assert!(rt; false),
     }
+    Ok(())
+}
+
+#[test]
+fn pump_takes_a_number(rt: HostRuntime) -> Result<(), Fail> {
+    let alloc = rt.alloc();
     let pump = fields(alloc, [Field::Number(100_000)])?;
     assert!(rt; matches!(command(alloc, b"pump", pump)?, Some(Command::Pump(100_000))));
     assert!(rt; command(alloc, b"fail", Fields::new(alloc))?.is_none());

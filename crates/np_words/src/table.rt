@@ -34,28 +34,30 @@ macro_rules! row {
     };
 }
 
-/// The major and the minor number of a version.
-const PAGE_HEAD_ROWS: [Row; 1] = [row!("page", [Number(0, 255), Number(0, 255)])];
+// The tables are statics: a constant that refers to others is built anew wherever it is used.
 
 /// The major and the minor number of a version.
-const PLUG_HEAD_ROWS: [Row; 1] = [row!("plugin", [Number(0, 255), Number(0, 255)])];
+static PAGE_HEAD_ROWS: [Row; 1] = [row!("page", [Number(0, 255), Number(0, 255)])];
+
+/// The major and the minor number of a version.
+static PLUG_HEAD_ROWS: [Row; 1] = [row!("plugin", [Number(0, 255), Number(0, 255)])];
 
 /// A class has a name and a structure version; a resource its URL, its MIME type, how often its piece comes, and the piece.
-const PAGE_TOP_ROWS: [Row; 3] = [
+static PAGE_TOP_ROWS: [Row; 3] = [
     row!("class", [Text, Number(1, 3)]),
     row!("resource", [Text, Text, Number(0, 16777216), Text]),
     row!("do", []),
 ];
 
 /// A class has a name and a structure version.
-const PLUG_TOP_ROWS: [Row; 3] = [
+static PLUG_TOP_ROWS: [Row; 3] = [
     row!("class", [Text, Number(1, 3)]),
     row!("handler", [HandlerWord]),
     row!("task", [Text]),
 ];
 
 /// The members of a class.
-const CLASS_ROWS: [Row; 7] = [
+static CLASS_ROWS: [Row; 7] = [
     row!("data", []),
     row!("method", [Identifier]),
     row!("default", []),
@@ -66,7 +68,7 @@ const CLASS_ROWS: [Row; 7] = [
 ];
 
 /// What is an action and a command alike.
-const CALL_ROWS: [Row; 12] = [
+static CALL_ROWS: [Row; 12] = [
     row!("set", [Register, Operand]),
     row!("drop", [Register]),
     row!("invoke", [Register, Operand, Identifier], [Operand], 0, 8),
@@ -82,7 +84,7 @@ const CALL_ROWS: [Row; 12] = [
 ];
 
 /// The actions of both sides beside those.
-const SHARED_ACTION_ROWS: [Row; 11] = [
+static SHARED_ACTION_ROWS: [Row; 11] = [
     row!("add", [Register, Operand, Operand]),
     row!("fail", []),
     row!("return", [Operand]),
@@ -97,10 +99,10 @@ const SHARED_ACTION_ROWS: [Row; 11] = [
 ];
 
 /// The actions of a page alone.
-const PAGE_ACTION_ROWS: [Row; 1] = [row!("destroy", [Register, Number(1, 255)])];
+static PAGE_ACTION_ROWS: [Row; 1] = [row!("destroy", [Register, Number(1, 255)])];
 
 /// The actions of a plug-in alone.
-const PLUG_ACTION_ROWS: [Row; 6] = [
+static PLUG_ACTION_ROWS: [Row; 6] = [
     row!("window", [Register]),
     row!("geturl", [Register, Operand, Integer]),
     row!(
@@ -116,7 +118,7 @@ const PLUG_ACTION_ROWS: [Row; 6] = [
 ];
 
 /// The commands that are no actions.
-const COMMAND_ROWS: [Row; 7] = [
+static COMMAND_ROWS: [Row; 7] = [
     row!("create", [Text, Mode], [Text, Text], 0, 3),
     row!("destroy", [Number(1, 255)]),
     row!("scriptable", [Register, Number(1, 255)]),
