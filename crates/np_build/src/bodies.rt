@@ -1,65 +1,29 @@
 //! The lines of the bodies of handlers and tasks, those of commands, and a line at any place.
 
-ghost use Rattle.np_build.specs.Building.{built_in_handler, built_in_task, built_in_body, built_command, built_after, Gives};
+ghost use Rattle.std.specs.Prelude.{codes};
+ghost use Rattle.np_build.specs.Building.{built_in_body, built_command, built_after, Gives};
 
 use crate::state::{Building, Unfinished};
 use np_fields::Fields;
-use np_grammar::{HandlerDef, Place, TaskDef};
+use np_grammar::Place;
 use np_rows::{action, command};
 use np_values::NoMemory;
 use std::alloc::Global;
 use std::mem;
 
 impl Building {
-    /// A line in the body of a handler.
-    fn handler(
-        &mut self,
-        alloc: Global,
-        mut handler: HandlerDef,
-        word: &[u8],
-        fields: Fields,
-    ) -> Result<Option<()>, NoMemory>
-        ensures value { Gives result self.new (built_in_handler self.old handler word.now fields) }
+    /// The end of the body of a handler or a task.
+    fn end_body(&mut self, fields: Fields) -> Result<Option<()>, NoMemory>
+        ensures value { Gives result self.new (built_in_body self.old self.old.unfinished (codes "end") fields) }
     {
-        if word == b"end".as_slice() {
-            let Some(()) = fields.end() else {
-                return Ok(None);
-            };
-            self.handlers.push(handler)?;
-            self.unfinished = Unfinished::Nothing;
-            return Ok(Some(()));
-        }
-        let Some(action) = action(alloc, word, fields)? else {
+        let Some(()) = fields.end() else {
             return Ok(None);
         };
-        handler.body.push(action)?;
-        self.unfinished = Unfinished::OfHandler(handler);
-        Ok(Some(()))
-    }
-
-    /// A line in the body of a task.
-    fn task(
-        &mut self,
-        alloc: Global,
-        mut task: TaskDef,
-        word: &[u8],
-        fields: Fields,
-    ) -> Result<Option<()>, NoMemory>
-        ensures value { Gives result self.new (built_in_task self.old task word.now fields) }
-    {
-        if word == b"end".as_slice() {
-            let Some(()) = fields.end() else {
-                return Ok(None);
-            };
-            self.tasks.push(task)?;
-            self.unfinished = Unfinished::Nothing;
-            return Ok(Some(()));
+        match mem::replace(&mut self.unfinished, Unfinished::Nothing) {
+            Unfinished::OfHandler(handler) => self.handlers.push(handler)?,
+            Unfinished::OfTask(task) => self.tasks.push(task)?,
+            _ => return Ok(None),
         }
-        let Some(action) = action(alloc, word, fields)? else {
-            return Ok(None);
-        };
-        task.body.push(action)?;
-        self.unfinished = Unfinished::OfTask(task);
         Ok(Some(()))
     }
 
@@ -67,11 +31,18 @@ impl Building {
     fn body(&mut self, alloc: Global, word: &[u8], fields: Fields) -> Result<Option<()>, NoMemory>
         ensures value { Gives result self.new (built_in_body self.old self.old.unfinished word.now fields) }
     {
-        match mem::replace(&mut self.unfinished, Unfinished::Nothing) {
-            Unfinished::OfHandler(handler) => self.handler(alloc, handler, word, fields),
-            Unfinished::OfTask(task) => self.task(alloc, task, word, fields),
-            _ => Ok(None),
+        if word == b"end".as_slice() {
+            return self.end_body(fields);
         }
+        let Some(action) = action(alloc, word, fields)? else {
+            return Ok(None);
+        };
+        match &mut self.unfinished {
+            Unfinished::OfHandler(handler) => handler.body.push(action)?,
+            Unfinished::OfTask(task) => task.body.push(action)?,
+            _ => return Ok(None),
+        }
+        Ok(Some(()))
     }
 
     /// A line behind `do`.

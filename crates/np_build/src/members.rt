@@ -1,6 +1,6 @@
 //! The members of a class, and the lines of their bodies.
 
-ghost use Rattle.std.specs.Prelude.{◌≡◌, IfOk};
+ghost use Rattle.std.specs.Prelude.{◌≡◌, OnOk, codes};
 ghost use Rattle.np_build.specs.Building.{only_key, opened_member, with_action, built_in_member, Gives};
 
 use crate::state::{Building, Unfinished};
@@ -45,35 +45,38 @@ pub(crate) fn opens(alloc: Global, word: &[u8], fields: Fields) -> Option<Member
     }
 }
 
-/// The member with one more action.
-fn extended(member: Member, action: Action) -> Result<Member, NoMemory>
-    ensures value { IfOk result (λ longer. longer ≡ with_action member action) }
+/// Puts an action behind those of a member.
+fn extend(member: &mut Member, action: Action) -> Result<(), NoMemory>
+    ensures value { OnOk result (member.new ≡ with_action member.old action) }
 {
     match member {
-        Member::Method(key, mut body) => {
-            body.push(action)?;
-            Ok(Member::Method(key, body))
-        }
-        Member::Default(mut body) => {
-            body.push(action)?;
-            Ok(Member::Default(body))
-        }
-        Member::Construct(mut body) => {
-            body.push(action)?;
-            Ok(Member::Construct(body))
-        }
-        Member::Getter(key, mut body) => {
-            body.push(action)?;
-            Ok(Member::Getter(key, body))
-        }
-        Member::Setter(key, mut body) => {
-            body.push(action)?;
-            Ok(Member::Setter(key, body))
-        }
+        Member::Method(_, body) => body.push(action),
+        Member::Default(body) => body.push(action),
+        Member::Construct(body) => body.push(action),
+        Member::Getter(_, body) => body.push(action),
+        Member::Setter(_, body) => body.push(action),
     }
 }
 
 impl Building {
+    /// The end of a member's body.
+    fn end_member(&mut self, fields: Fields) -> Result<Option<()>, NoMemory>
+        ensures value { Gives result self.new (built_in_member self.old self.old.unfinished (codes "end") fields) }
+    {
+        let Unfinished::OfMember(mut class, member) = mem::replace(
+            &mut self.unfinished,
+            Unfinished::Nothing,
+        ) else {
+            return Ok(None);
+        };
+        let Some(()) = fields.end() else {
+            return Ok(None);
+        };
+        class.members.push(member)?;
+        self.unfinished = Unfinished::OfClass(class);
+        Ok(Some(()))
+    }
+
     /// A line in the body of a member.
     pub(crate) fn member(
         &mut self,
@@ -83,24 +86,16 @@ impl Building {
     ) -> Result<Option<()>, NoMemory>
         ensures value { Gives result self.new (built_in_member self.old self.old.unfinished word.now fields) }
     {
-        let Unfinished::OfMember(mut class, member) = mem::replace(
-            &mut self.unfinished,
-            Unfinished::Nothing,
-        ) else {
+        if word == b"end".as_slice() {
+            return self.end_member(fields);
+        }
+        let Unfinished::OfMember(_, member) = &mut self.unfinished else {
             return Ok(None);
         };
-        if word == b"end".as_slice() {
-            let Some(()) = fields.end() else {
-                return Ok(None);
-            };
-            class.members.push(member)?;
-            self.unfinished = Unfinished::OfClass(class);
-            return Ok(Some(()));
-        }
         let Some(action) = action(alloc, word, fields)? else {
             return Ok(None);
         };
-        self.unfinished = Unfinished::OfMember(class, extended(member, action)?);
+        extend(member, action)?;
         Ok(Some(()))
     }
 }
