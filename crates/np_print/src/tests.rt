@@ -150,10 +150,22 @@ fn actions_on_properties(rt: HostRuntime) -> Result<(), Fail> {
         Action::Get(4, Operand::Reg(5), IdKey::Int(12)),
         Action::Put(Operand::Reg(6), twelve, int(12)),
         Action::Remove(Operand::Reg(7), a),
-        Action::HasMethod(Operand::Reg(8), IdKey::Int(1)),
-        Action::HasProperty(Operand::Reg(9), IdKey::Int(2)),
     ];
-    let lines = "get $4 $5 12\nput $6 \"12\" 12\nremove $7 \"a\"\nhasm $8 1\nhasp $9 2\n";
+    let lines = "get $4 $5 12\nput $6 \"12\" 12\nremove $7 \"a\"\n";
+    assert!(rt; are_actions(alloc, actions, lines)?);
+    Ok(())
+}
+
+#[test]
+fn actions_that_ask(rt: HostRuntime) -> Result<(), Fail> {
+    let alloc = rt.alloc();
+    let b = key(alloc, "b")?;
+    let c = key(alloc, "c")?;
+    let actions = [
+        Action::HasMethod(Operand::Reg(8), b),
+        Action::HasProperty(Operand::Reg(9), c),
+    ];
+    let lines = "hasm $8 \"b\"\nhasp $9 \"c\"\n";
     assert!(rt; are_actions(alloc, actions, lines)?);
     Ok(())
 }
@@ -269,10 +281,22 @@ fn commands_on_properties(rt: HostRuntime) -> Result<(), Fail> {
         Command::Get(4, Operand::Reg(5), IdKey::Int(12)),
         Command::Put(Operand::Reg(6), twelve, int(12)),
         Command::Remove(Operand::Reg(7), a),
-        Command::HasMethod(Operand::Reg(8), IdKey::Int(1)),
-        Command::HasProperty(Operand::Reg(9), IdKey::Int(2)),
     ];
-    let lines = "get $4 $5 12\nput $6 \"12\" 12\nremove $7 \"a\"\nhasm $8 1\nhasp $9 2\n";
+    let lines = "get $4 $5 12\nput $6 \"12\" 12\nremove $7 \"a\"\n";
+    assert!(rt; are_commands(alloc, commands, lines)?);
+    Ok(())
+}
+
+#[test]
+fn commands_that_ask(rt: HostRuntime) -> Result<(), Fail> {
+    let alloc = rt.alloc();
+    let b = key(alloc, "b")?;
+    let c = key(alloc, "c")?;
+    let commands = [
+        Command::HasMethod(Operand::Reg(8), b),
+        Command::HasProperty(Operand::Reg(9), c),
+    ];
+    let lines = "hasm $8 \"b\"\nhasp $9 \"c\"\n";
     assert!(rt; are_commands(alloc, commands, lines)?);
     Ok(())
 }
