@@ -1,11 +1,31 @@
 //! What is measured. Each answers status 0, or 3 where the bytes aren't one message.
 
+ghost use Rattle.std.specs.Prelude.{◌≡◌, ◌<◌, ◌⊎◌, IfOk};
+ghost use Rattle.np_message.specs.Encoding.{encoding};
+ghost use Rattle.np_wire_speed.specs.Work.{BeginsWithMessage, IsOneMessage};
+
 use np_values::NoMemory;
-use np_wire::{Feed, FeedError, encode};
+use np_wire::{Feed, FeedError, Message, encode};
 use std::alloc::Global;
 
+/// Encodes a message so many times into the same room.
+fn encode_times(alloc: Global, message: &Message, times: u32) -> Result<Vec<u8>, NoMemory>
+    ensures last { IfOk result (λ bytes. 0 < times → bytes.items ≡ encoding message.now) }
+{
+    let mut out = Vec::new(alloc);
+    for _ in 0..times {
+        out.clear();
+        encode(message, &mut out)?;
+    }
+    Ok(out)
+}
+
 /// Decodes the message once, and encodes it so many times into the same room.
-pub fn encode_again(alloc: Global, bytes: &[u8], times: u32) -> Result<u8, NoMemory> {
+pub fn encode_again(alloc: Global, bytes: &[u8], times: u32) -> Result<u8, NoMemory>
+    ensures status { IfOk result (λ status. (status ≡ 0) ⊎ (status ≡ 3)) }
+    ensures message { IfOk result (λ status. status ≡ 0 → BeginsWithMessage bytes.now) }
+    ensures whole { IfOk result (λ status. status ≡ 0 → 0 < times → IsOneMessage bytes.now) }
+{
     if bytes.len() > 65536 {
         return Ok(3);
     }
@@ -16,11 +36,7 @@ pub fn encode_again(alloc: Global, bytes: &[u8], times: u32) -> Result<u8, NoMem
         Ok(None) | Err(FeedError::Wire(_)) => return Ok(3),
         Err(FeedError::NoMemory) => return Err(NoMemory),
     };
-    let mut out = Vec::new(alloc);
-    for _ in 0..times {
-        out.clear();
-        encode(&message, &mut out)?;
-    }
+    let out = encode_times(alloc, &message, times)?;
     Ok(if out.as_slice() == bytes || times == 0 {
         0
     } else {
@@ -29,7 +45,10 @@ pub fn encode_again(alloc: Global, bytes: &[u8], times: u32) -> Result<u8, NoMem
 }
 
 /// Gives the bytes so many times to one feed, and takes the message off each time.
-pub fn decode(alloc: Global, bytes: &[u8], times: u32) -> Result<u8, NoMemory> {
+pub fn decode(alloc: Global, bytes: &[u8], times: u32) -> Result<u8, NoMemory>
+    ensures status { IfOk result (λ status. (status ≡ 0) ⊎ (status ≡ 3)) }
+    ensures message { IfOk result (λ status. status ≡ 0 → 0 < times → BeginsWithMessage bytes.now) }
+{
     if bytes.len() > 65536 {
         return Ok(3);
     }
@@ -46,7 +65,9 @@ pub fn decode(alloc: Global, bytes: &[u8], times: u32) -> Result<u8, NoMemory> {
 }
 
 /// Copies the bytes so many times into the same room.
-pub fn copy(alloc: Global, bytes: &[u8], times: u32) -> Result<u8, NoMemory> {
+pub fn copy(alloc: Global, bytes: &[u8], times: u32) -> Result<u8, NoMemory>
+    ensures status { IfOk result (λ status. status ≡ 0) }
+{
     let mut out = Vec::new(alloc);
     for _ in 0..times {
         out.clear();

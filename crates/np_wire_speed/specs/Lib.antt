@@ -1,0 +1,2 @@
+pub mod Work
+pub use Rattle.np_wire.specs.Feed
