@@ -91,7 +91,7 @@ fn take_one(feed: &mut Feed, bytes: &[u8]) -> Result<bool, NoMemory>
 }
 
 /// Gives the bytes so many times to one feed, and takes a message off each time. The status is 3 where none is there
-/// at one of these times.
+/// at one of these times, and of more than 65,536 bytes.
 #[tactic(auto, using(crate::proofs::OneMessage::is_short))]
 pub fn decode(alloc: Global, bytes: &[u8], times: u32) -> Result<u8, NoMemory>
     ensures status { IfOk result (λ status. (status ≡ 0) ⊎ (status ≡ 3)) }
