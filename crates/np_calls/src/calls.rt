@@ -31,7 +31,7 @@ impl Model for Calls {
 }
 
 impl Calls {
-    /// No call of this side is outstanding.
+    /// A side without open calls.
     pub fn new(side: Side) -> Calls
         ensures value { result ≡ record { side = side; calls = [] } }
     {
@@ -45,7 +45,7 @@ impl Calls {
         }
     }
 
-    /// This side makes a call.
+    /// Notes that this side makes a call. `place` and `answered` count it until its reply comes.
     pub fn begin(&mut self, depth: Depth)
         requires may { MayBegin self.old.calls depth }
         ensures value { self.new ≡ record self.old { calls = self.old.calls ++ depth ∷ [] } }
@@ -54,7 +54,8 @@ impl Calls {
         self.count += 1;
     }
 
-    /// Where a call of the other side stands.
+    /// Says how a call of the other side stands to this side's open calls: nested in the last one, racing
+    /// with a task's call, or out of turn.
     pub fn place(&self, depth: &Depth) -> Place
         ensures value { result ≡ place_of self.now depth.now }
     {

@@ -3,7 +3,7 @@ ghost use Rattle.np_calls.specs.Calls.{AreOutstanding, is_task_alone as is_one_o
 
 use np_message::Depth;
 
-/// Where a call of the other side stands among a side's own outstanding calls. (This project's own.)
+/// How a call of the other side stands to a side's own open calls. (This project's own.)
 #[derive(Clone, Copy, Debug, PartialEq, Eq)]
 pub enum Place {
     /// It was made while the other side served the last outstanding call, or none is outstanding.

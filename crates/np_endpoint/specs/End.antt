@@ -41,7 +41,7 @@ total_of e = e.consumed + length e.unread
 abbrev pub HasPace : {C : Type 0} → Role C → C → Pace → Type 0
 HasPace {C} role control pace = (p : SideState C) → p.control ≡ control → role.plans.pace p ≡ pace
 
--- of the bytes that came, `left` stand behind the messages that the side examined
+-- of the bytes that came, `left` stand after the messages that the side examined
 abbrev pub HasLeft : {C : Type 0} → Role C → SideState C → Halt → ℕ → List ℕ → List ℕ → Type 0
 HasLeft role side Waiting consumed unread left = (consumed ≡ length (encodings side.examined)) × (unread ≡ left)
 HasLeft role side Finished consumed unread left = (consumed ≡ length (encodings side.examined)) × (unread ≡ left)

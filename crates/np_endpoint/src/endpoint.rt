@@ -8,7 +8,7 @@ use crate::Halt;
 use np_values::NoMemory;
 
 /// One side of a run, as a machine from the other side's bytes to its own. It reads and writes nothing
-/// itself: its owner gives it bytes by `take`, lets it `run`, and carries off what is in `outgoing` and
+/// itself: its owner gives it bytes by `take`, lets it `run`, and writes out what is in `outgoing` and
 /// `journal`. `Script` is what it was made of, `Control` where its side stands, and `role_of` what its side
 /// does. This project's own.
 pub trait Endpoint {
@@ -45,7 +45,7 @@ pub trait Endpoint {
         ensures same { seen self.new ≡ record (seen self.old) { journal = drop n (seen self.old).journal } };
 
     /// Gives it further bytes of the other side, in whatever chunks they come; they are copied. It takes at
-    /// most 2^40 bytes in all. An `Err` is want of memory.
+    /// most 2^40 bytes in all. An `Err` means that memory ran out.
     fn take(&mut self, bytes: &[u8]) -> Result<(), NoMemory>
         requires room { total_of (seen self.old) + length bytes.now ≤ 2 ^ 40 }
         ensures stands { OnOk result ((script : Script) (got sent printed : List ℕ) →
@@ -53,8 +53,8 @@ pub trait Endpoint {
             StandsFor role_of script (got ++ bytes.now) sent printed (seen self.new)) }
         ensures same { OnOk result (seen self.new ≡ record (seen self.old) { unread = (seen self.old).unread ++ bytes.now }) };
 
-    /// Goes on until it waits for a message that isn't whole yet, has ended, or refuses a message. An `Err`
-    /// is want of memory.
+    /// Continues until it waits for a message that isn't whole yet, has ended, or refuses a message. An `Err`
+    /// is out of memory.
     fn run(&mut self) -> Result<Halt, NoMemory>
         ensures keeps { OnOk result (Keeps role_of (seen self.old) (seen self.new)) }
         ensures rests { IfOk result (λ halt. RestsAs role_of (seen self.new) halt) }

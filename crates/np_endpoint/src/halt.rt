@@ -7,7 +7,7 @@ use np_model::Refusal;
 pub enum Halt {
     /// It needs a message that isn't whole yet.
     Waiting,
-    /// Its side has ended. What came behind the last message is left unread and never examined.
+    /// Its side has ended. What came after the last message is left unread and never examined.
     Finished,
     /// It refused what the other side sent, and nothing of that took effect.
     Refused(Refusal),

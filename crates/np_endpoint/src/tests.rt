@@ -1,6 +1,6 @@
 use super::*;
 use np_model::Phase;
-use np_proxy::{Release, Releases};
+use np_proxy_release::{Release, Releases};
 use std::test::*;
 
 #[test]

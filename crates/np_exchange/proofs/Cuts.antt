@@ -1,13 +1,14 @@
 -- What was carried by the time that an exchange was cut short.
-use Rattle.std.proofs.Common.{◌≡◌, ℕ, List, [], ◌++◌, take, ◌⊎◌, inl, inr, Option, Some, None, refl, sym, ap, ◌∙◌, append_assoc, append-nil}
+use Rattle.std.proofs.Common.{◌≡◌, ℕ, List, [], ◌++◌, take, ◌⊎◌, inl, inr, Option, Some, None, refl, sym, ap, ◌∙◌, append_assoc, append-nil, drop}
+use Rattle.std.proofs.lemmas.List.{take-append-drop}
 use Rattle.np_message.specs.Encoding.{encodings}
 use Rattle.np_model.specs.Side.{SideState}
 use Rattle.np_model.specs.Alone.{Role, ComesTo}
 use Rattle.np_ports.specs.Peer.{Known, took, gave}
 use Rattle.np_endpoint.specs.End.{EndState, StandsFor}
 use Rattle.np_endpoint.specs.declared.halt.Halt.{Halt}
-use Rattle.np_ending.specs.PeerCauses.{TookPart, ReadCut}
-use Rattle.np_ending.specs.Causes.{BeginsWith}
+use Rattle.np_end_stops.specs.PeerCauses.{TookPart, ReadCut}
+use Rattle.np_end_stops.specs.Causes.{BeginsWith}
 use Rattle.np_exchange.specs.Session.{Exchanged, Interrupted}
 use Rattle.np_exchange.specs.Live.{Live, Ran, RanCut, Turned, TurnCut}
 use Rattle.np_exchange.proofs.PeerReads.{exchanged-read}
@@ -62,8 +63,8 @@ comes-further : {C : Type 0} (role : Role C) (got more : List ℕ) (p : SideStat
 comes-further role got more p c = record { turns = c.turns; left = c.left ++ more; comes = c.comes; messages = c.messages; got_is = ap (λ (l : List ℕ). l ++ more) c.got_is ∙ append_assoc (encodings p.examined) c.left more }
 
 -- the peer gave bytes that the end didn't get
-read-interrupted : {S C : Type 0} (role_of : S → Role C) (script : S) (old : Known) (first : List ℕ) (known : Option Known) (taken : Option (List ℕ)) (e : EndState S C) (l : Listening role_of script old first known taken e) (n : ℕ) (buf : List ℕ) → Interrupted (role_of script) old first (gave l.now n buf) l.sink
-read-interrupted role_of script old first known taken e l n buf =
+read-interrupted : {S C : Type 0} (role_of : S → Role C) (script : S) (old : Known) (first : List ℕ) (known : Option Known) (taken : Option (List ℕ)) (e : EndState S C) (l : Listening role_of script old first known taken e) (n : ℕ) (buf : List ℕ) → take n buf ≡ take n l.now.left → Interrupted (role_of script) old first (gave l.now n buf) l.sink
+read-interrupted role_of script old first known taken e l n buf same =
     let v = l.going.live in
     let next = gave l.now n buf in
     record {
@@ -71,7 +72,7 @@ read-interrupted role_of script old first known taken e l n buf =
       sent = v.taken;
       side = v.stands.side;
       lines = v.printed;
-      exchanged = exchanged-read (role_of script) old l.now next v.got v.taken (take n buf) v.stands.side v.exchanged (waits-at role_of script v.got v.sent v.printed e l.waits v.stands) (all-taken role_of script v.got v.sent v.printed v.taken e l.going.whole l.nothing v.stands) refl refl refl refl;
+      exchanged = exchanged-read (role_of script) old l.now next v.got v.taken (take n buf) v.stands.side v.exchanged (waits-at role_of script v.got v.sent v.printed e l.waits v.stands) (all-taken role_of script v.got v.sent v.printed v.taken e l.going.whole l.nothing v.stands) refl (sym (take-append-drop n l.now.left) ∙ ap (λ (x : List ℕ). x ++ drop n l.now.left) (sym same)) refl refl refl;
       comes_to = comes-further (role_of script) v.got (take n buf) v.stands.side (comes-to role_of script v.got v.sent v.printed e v.stands);
       sent_part = record { rest = v.taken_part.rest; parts = v.stands.sent_is ∙ v.taken_part.parts };
       lines_part = record { rest = e.journal; parts = v.stands.printed_is };
@@ -81,9 +82,9 @@ read-interrupted role_of script old first known taken e l n buf =
 pub read-cut : {S C : Type 0} (role_of : S → Role C) (known1 known2 : Option Known) (taken : Option (List ℕ)) (e : EndState S C) (script : S) (old : Known) (first : List ℕ) → ReadCut known1 known2 → Listening role_of script old first known1 taken e → (next : Known) × (more : List ℕ) × (known2 ≡ Some next) × (taken ≡ Some more) × Interrupted (role_of script) old first next more
 read-cut role_of known1 known2 taken e script old first cut l = at (cut l.now l.known_is)
   where
-    at : (known2 ≡ Some l.now) ⊎ ((n : ℕ) × (buf : List ℕ) × (known2 ≡ Some (gave l.now n buf))) → (next : Known) × (more : List ℕ) × (known2 ≡ Some next) × (taken ≡ Some more) × Interrupted (role_of script) old first next more
+    at : (known2 ≡ Some l.now) ⊎ ((n : ℕ) × (buf : List ℕ) × (known2 ≡ Some (gave l.now n buf)) × (take n buf ≡ take n l.now.left)) → (next : Known) × (more : List ℕ) × (known2 ≡ Some next) × (taken ≡ Some more) × Interrupted (role_of script) old first next more
     at (inl same) = (l.now, l.sink, same, l.taken_is, live-interrupted role_of script old first l.now l.sink e l.going.live)
-    at (inr (n, buf, is)) = (gave l.now n buf, l.sink, is, l.taken_is, read-interrupted role_of script old first known1 taken e l n buf)
+    at (inr (n, buf, is, same)) = (gave l.now n buf, l.sink, is, l.taken_is, read-interrupted role_of script old first known1 taken e l n buf same)
 
 -- a turn that is cut short after others
 pub turned-cut : {S C : Type 0} (role_of : S → Role C) (known0 known1 known2 : Option Known) (taken0 taken1 taken2 : Option (List ℕ)) (e0 e1 : EndState S C) → Turned role_of known0 known1 taken0 taken1 e0 e1 None → TurnCut role_of known1 known2 taken1 taken2 e1 → TurnCut role_of known0 known2 taken0 taken2 e0

@@ -1,14 +1,14 @@
 -- How an exchange goes on.
-use Rattle.std.proofs.Common.{◌≡◌, ℕ, ◌^◌, ◌<◌, List, [], ◌∷◌, ◌++◌, length, Bool, true, false, Option, Some, None, refl, sym, ap, subst, ◌∙◌, append_assoc, inl, inr}
-use Rattle.std.proofs.lemmas.List.{append-nil}
+use Rattle.std.proofs.Common.{◌≡◌, ℕ, ◌^◌, ◌<◌, List, [], ◌∷◌, ◌++◌, length, Bool, true, false, Option, Some, None, refl, sym, ap, subst, ◌∙◌, append_assoc, inl, inr, take, drop}
+use Rattle.std.proofs.lemmas.List.{append-nil, take-append-drop}
 use Rattle.np_model.specs.declared.refusal.Refusal.{Refusal}
 use Rattle.np_model.specs.Alone.{Role, too_many_bytes}
 use Rattle.np_ports.specs.Peer.{Known, took, gave, asked}
 use Rattle.np_endpoint.specs.End.{EndState, StandsFor, RestsAs, total_of}
 use Rattle.np_endpoint.specs.declared.halt.Halt.{Halt}
 use Rattle.np_endpoint.specs.declared.halt.Halt.TheVariants.{Waiting, Finished, Refused}
-use Rattle.np_ending.specs.declared.ending.Ending.{Ending}
-use Rattle.np_ending.specs.declared.ending.Ending.TheVariants as endings
+use Rattle.np_end_stops.specs.declared.ending.Ending.{Ending}
+use Rattle.np_end_stops.specs.declared.ending.Ending.TheVariants as endings
 use Rattle.np_exchange.specs.Flow.{SentAll, SentPart, Sent}
 use Rattle.np_exchange.specs.Live.{Live, Going, AtEnding, After, Turned, HeardOn, Ran}
 use Rattle.np_exchange.proofs.PeerReads.{exchanged-took, exchanged-read}
@@ -95,9 +95,9 @@ live-unsent {S} {C} role_of script old now first sink x y e0 e1 parts same g = s
 
 -- a read with nothing left to send, by an end that waits
 pub live-read : {S C : Type 0} (role_of : S → Role C) (script : S) (old now next : Known) (first sink bytes : List ℕ) (e0 e1 : EndState S C) → Going role_of script old first now sink e0 → e0.outgoing ≡ [] → RestsAs role_of e0 Waiting
-    → next.given ≡ now.given ++ bytes → next.taken ≡ now.taken → next.starts ≡ now.starts → next.reads ≡ now.reads ++ (length now.taken, length now.given) ∷ []
+    → next.given ≡ now.given ++ bytes → now.left ≡ bytes ++ next.left → next.taken ≡ now.taken → next.starts ≡ now.starts → next.reads ≡ now.reads ++ (length now.taken, length now.given) ∷ []
     → ((script : S) (got sent printed : List ℕ) → StandsFor role_of script got sent printed e0 → StandsFor role_of script (got ++ bytes) sent printed e1) → Going role_of script old first next sink e1
-live-read role_of script old now next first sink bytes e0 e1 g nothing w given taken starts reads carries =
+live-read role_of script old now next first sink bytes e0 e1 g nothing w given left taken starts reads carries =
     let l = g.live in
     record {
       live = record {
@@ -106,7 +106,7 @@ live-read role_of script old now next first sink bytes e0 e1 g nothing w given t
         taken = l.taken;
         printed = l.printed;
         stands = carries script l.got l.sent l.printed l.stands;
-        exchanged = exchanged-read (role_of script) old now next l.got l.taken bytes l.stands.side l.exchanged (waits-at role_of script l.got l.sent l.printed e0 w l.stands) (all-taken role_of script l.got l.sent l.printed l.taken e0 g.whole nothing l.stands) given taken starts reads;
+        exchanged = exchanged-read (role_of script) old now next l.got l.taken bytes l.stands.side l.exchanged (waits-at role_of script l.got l.sent l.printed e0 w l.stands) (all-taken role_of script l.got l.sent l.printed l.taken e0 g.whole nothing l.stands) given left taken starts reads;
         taken_part = record { rest = e1.outgoing; parts = ap (λ (x : List ℕ). x ++ e1.outgoing) (sym g.whole) };
         sink_is = l.sink_is;
       };
@@ -122,7 +122,7 @@ stands-nothing {S} {C} role_of e0 e1 same script got sent printed s = subst (λ 
 pub ending-refused : {S C : Type 0} (role_of : S → Role C) (script : S) (old : Known) (first : List ℕ) (now : Known) (sink : List ℕ) (e : EndState S C) (s : Halt) (r : Refusal) → s ≡ Refused r → Going role_of script old first now sink e → e.journal ≡ [] → RestsAs role_of e s → AtEnding role_of script old first now sink e (endings.Refused r)
 ending-refused role_of script old first now sink e s r is g quiet rests =
     let state : e.state ≡ Refused r = subst (λ (t : Halt). RestsAs role_of e t) is rests in
-    record { live = g.live; quiet = quiet; ends = inl state }
+    record { live = g.live; quiet = quiet; ends = inl state; left = tt }
 
 waits-for : {S C : Type 0} (role_of : S → Role C) (e : EndState S C) (s : Halt) → ((r : Refusal) → s ≡ Refused r → ⊥) → (s ≡ Finished → ⊥) → RestsAs role_of e s → RestsAs role_of e Waiting
 waits-for role_of e Waiting unrefused unfinished rests = rests
@@ -193,19 +193,19 @@ pub turned-done : {S C : Type 0} (role_of : S → Role C) (known0 known1 : Optio
 turned-done {S} {C} role_of known0 known1 taken0 taken1 e0 e2 s sent t is all script old now first sink k o g =
     let r = going-ran role_of script old now first sink taken0 taken1 e0 t.between s o t.ran g in
     let a = after-sent role_of script old now first r.sink known0 known1 t.between e2 sent k all t.sends r.going r.quiet in
-    (a.now, r.sink, a.known_is, r.taken_is, record { live = a.going.live; quiet = a.quiet; ends = (a.going.whole, a.nothing, rests-sent role_of t.between e2 Finished (same-all role_of known0 known1 t.between e2 sent all t.sends) (has-finished role_of t.between s is r.rests)) })
+    (a.now, r.sink, a.known_is, r.taken_is, record { live = a.going.live; quiet = a.quiet; ends = (a.going.whole, a.nothing, rests-sent role_of t.between e2 Finished (same-all role_of known0 known1 t.between e2 sent all t.sends) (has-finished role_of t.between s is r.rests)); left = tt })
 
 pub turned-unsent : {S C : Type 0} (role_of : S → Role C) (known0 known1 : Option Known) (taken0 taken1 : Option (List ℕ)) (e0 e2 : EndState S C) (s : Halt) (sent : Bool) → TurnSent role_of known0 known1 taken0 taken1 e0 e2 s sent → s ≡ Finished → sent ≡ false → Turned role_of known0 known1 taken0 taken1 e0 e2 (Some endings.Unsent)
 turned-unsent {S} {C} role_of known0 known1 taken0 taken1 e0 e2 s sent t is part script old now first sink k o g =
     let r = going-ran role_of script old now first sink taken0 taken1 e0 t.between s o t.ran g in
     let a = after-part role_of script old now first r.sink known0 known1 t.between e2 sent k part t.sends r.going r.quiet in
-    (a.now, r.sink, a.known_is, r.taken_is, record { live = a.live; quiet = a.quiet; ends = subst (λ (e : EndState S C). RestsAs role_of e Finished) (sym (same-part role_of known0 known1 t.between e2 sent part t.sends)) (has-finished role_of t.between s is r.rests) })
+    (a.now, r.sink, a.known_is, r.taken_is, record { live = a.live; quiet = a.quiet; ends = subst (λ (e : EndState S C). RestsAs role_of e Finished) (sym (same-part role_of known0 known1 t.between e2 sent part t.sends)) (has-finished role_of t.between s is r.rests); left = tt })
 
 pub turned-failed : {S C : Type 0} (role_of : S → Role C) (known0 known1 : Option Known) (taken0 taken1 : Option (List ℕ)) (e0 e2 : EndState S C) (s : Halt) (sent : Bool) → TurnSent role_of known0 known1 taken0 taken1 e0 e2 s sent → ((r : Refusal) → s ≡ Refused r → ⊥) → (s ≡ Finished → ⊥) → sent ≡ false → Turned role_of known0 known1 taken0 taken1 e0 e2 (Some endings.Failed)
 turned-failed {S} {C} role_of known0 known1 taken0 taken1 e0 e2 s sent t unrefused unfinished part script old now first sink k o g =
     let r = going-ran role_of script old now first sink taken0 taken1 e0 t.between s o t.ran g in
     let a = after-part role_of script old now first r.sink known0 known1 t.between e2 sent k part t.sends r.going r.quiet in
-    (a.now, r.sink, a.known_is, r.taken_is, record { live = a.live; quiet = a.quiet; ends = subst (λ (e : EndState S C). RestsAs role_of e Waiting) (sym (same-part role_of known0 known1 t.between e2 sent part t.sends)) (waits-for role_of t.between s unrefused unfinished r.rests) })
+    (a.now, r.sink, a.known_is, r.taken_is, record { live = a.live; quiet = a.quiet; ends = subst (λ (e : EndState S C). RestsAs role_of e Waiting) (sym (same-part role_of known0 known1 t.between e2 sent part t.sends)) (waits-for role_of t.between s unrefused unfinished r.rests); left = tt })
 
 -- an end that waits and has nothing left to send
 pub record Listening {S C : Type 0} (role_of : S → Role C) (script : S) (old : Known) (first : List ℕ) (known : Option Known) (taken : Option (List ℕ)) (e : EndState S C) : Type 0 where
@@ -235,7 +235,11 @@ listening role_of known0 known1 taken0 taken1 e0 e2 s sent t unrefused unfinishe
     }
 
 pub turned-full : {S C : Type 0} (role_of : S → Role C) (known1 : Option Known) (taken1 : Option (List ℕ)) (e2 : EndState S C) (script : S) (old : Known) (first : List ℕ) → total_of e2 ≡ 2 ^ 40 → Listening role_of script old first known1 taken1 e2 → (next : Known) × (more : List ℕ) × (known1 ≡ Some next) × (taken1 ≡ Some more) × AtEnding role_of script old first next more e2 (endings.Refused too_many_bytes)
-turned-full role_of known1 taken1 e2 script old first full l = (l.now, l.sink, l.known_is, l.taken_is, record { live = l.going.live; quiet = l.quiet; ends = inr (l.waits, full, refl) })
+turned-full role_of known1 taken1 e2 script old first full l = (l.now, l.sink, l.known_is, l.taken_is, record { live = l.going.live; quiet = l.quiet; ends = inr (l.waits, full, refl); left = tt })
+
+-- the bytes that were read stood at the front of what was left
+front-left : (n : ℕ) (buf bytes left : List ℕ) → bytes ≡ take n buf → take n buf ≡ take n left → left ≡ bytes ++ drop n left
+front-left n buf bytes left read same = sym (take-append-drop n left) ∙ ap (λ (l : List ℕ). l ++ drop n left) (sym (read ∙ same))
 
 pub turned-heard : {S C : Type 0} (role_of : S → Role C) (known1 known2 : Option Known) (taken1 : Option (List ℕ)) (e2 e3 : EndState S C) (ending : Option Ending) → total_of e2 < 2 ^ 40 → HeardOn role_of known1 known2 e2 e3 ending → (script : S) (old : Known) (first : List ℕ) → Listening role_of script old first known1 taken1 e2 → (next : Known) × (more : List ℕ) × (known2 ≡ Some next) × (taken1 ≡ Some more) × After role_of script old first next more e3 ending
 turned-heard {S} {C} role_of known1 known2 taken1 e2 e3 None below h script old first l =
@@ -245,17 +249,17 @@ turned-heard {S} {C} role_of known1 known2 taken1 e2 e3 None below h script old 
       l.sink,
       k.2,
       l.taken_is,
-      live-read role_of script old l.now (gave l.now n k.0) first l.sink h.1.bytes e2 e3 l.going l.nothing l.waits (ap (λ (x : List ℕ). l.now.given ++ x) (sym k.1)) refl refl refl h.1.stands,
+      live-read role_of script old l.now (gave l.now n k.0) first l.sink h.1.bytes e2 e3 l.going l.nothing l.waits (ap (λ (x : List ℕ). l.now.given ++ x) (sym k.1)) (front-left n k.0 h.1.bytes l.now.left k.1 k.3) refl refl refl h.1.stands,
     )
 turned-heard {S} {C} role_of known1 known2 taken1 e2 e3 (Some endings.Done) below h script old first l = absurd h
 turned-heard {S} {C} role_of known1 known2 taken1 e2 e3 (Some endings.Unsent) below h script old first l = absurd h
 turned-heard {S} {C} role_of known1 known2 taken1 e2 e3 (Some endings.Ended) below h script old first l =
     let k = (h.known l.now l.known_is).1 in
     let next = gave l.now 0 k.0 in
-    let g = live-read role_of script old l.now next first l.sink [] e2 e3 l.going l.nothing l.waits refl refl refl refl (stands-nothing role_of e2 e3 h.same) in
-    (next, l.sink, k.1, l.taken_is, record { live = g.live; quiet = ap (λ (x : EndState S C). x.journal) h.same ∙ l.quiet; ends = (g.whole, ap (λ (x : EndState S C). x.outgoing) h.same ∙ l.nothing, subst (λ (e : EndState S C). RestsAs role_of e Waiting) (sym h.same) l.waits, subst (λ (e : EndState S C). total_of e < 2 ^ 40) (sym h.same) below) })
+    let g = live-read role_of script old l.now next first l.sink [] e2 e3 l.going l.nothing l.waits refl refl refl refl refl (stands-nothing role_of e2 e3 h.same) in
+    (next, l.sink, k.1, l.taken_is, record { live = g.live; quiet = ap (λ (x : EndState S C). x.journal) h.same ∙ l.quiet; ends = (g.whole, ap (λ (x : EndState S C). x.outgoing) h.same ∙ l.nothing, subst (λ (e : EndState S C). RestsAs role_of e Waiting) (sym h.same) l.waits, subst (λ (e : EndState S C). total_of e < 2 ^ 40) (sym h.same) below); left = (h.known l.now l.known_is).0 })
 turned-heard {S} {C} role_of known1 known2 taken1 e2 e3 (Some endings.Failed) below h script old first l =
     let next = asked l.now in
-    let g = live-read role_of script old l.now next first l.sink [] e2 e3 l.going l.nothing l.waits (sym (append-nil l.now.given)) refl refl refl (stands-nothing role_of e2 e3 h.same) in
-    (next, l.sink, h.known l.now l.known_is, l.taken_is, record { live = g.live; quiet = ap (λ (x : EndState S C). x.journal) h.same ∙ l.quiet; ends = subst (λ (e : EndState S C). RestsAs role_of e Waiting) (sym h.same) l.waits })
+    let g = live-read role_of script old l.now next first l.sink [] e2 e3 l.going l.nothing l.waits (sym (append-nil l.now.given)) refl refl refl refl (stands-nothing role_of e2 e3 h.same) in
+    (next, l.sink, h.known l.now l.known_is, l.taken_is, record { live = g.live; quiet = ap (λ (x : EndState S C). x.journal) h.same ∙ l.quiet; ends = subst (λ (e : EndState S C). RestsAs role_of e Waiting) (sym h.same) l.waits; left = tt })
 turned-heard {S} {C} role_of known1 known2 taken1 e2 e3 (Some (endings.Refused r)) below h script old first l = absurd h

@@ -31,6 +31,7 @@ pub exchanged-took : {C : Type 0} (role : Role C) (old now : Known) (got sent by
 exchanged-took role old now got sent bytes x = record {
   reads = x.reads;
   given = x.given;
+  left = x.left;
   taken = ap (λ (l : List ℕ). l ++ bytes) x.taken ∙ append_assoc old.taken sent bytes;
   starts = x.starts;
   reads_are = x.reads_are;
@@ -51,13 +52,14 @@ reads-now role old now got sent side x w sent_is =
     }
 
 pub exchanged-read : {C : Type 0} (role : Role C) (old now next : Known) (got sent bytes : List ℕ) (side : SideState C) → Exchanged role old now got sent → WaitsAt role got side → sent ≡ encodings side.sent
-    → next.given ≡ now.given ++ bytes → next.taken ≡ now.taken → next.starts ≡ now.starts → next.reads ≡ now.reads ++ (length now.taken, length now.given) ∷ [] → Exchanged role old next (got ++ bytes) sent
-exchanged-read role old now next got sent bytes side x w sent_is given taken starts reads =
+    → next.given ≡ now.given ++ bytes → now.left ≡ bytes ++ next.left → next.taken ≡ now.taken → next.starts ≡ now.starts → next.reads ≡ now.reads ++ (length now.taken, length now.given) ∷ [] → Exchanged role old next (got ++ bytes) sent
+exchanged-read role old now next got sent bytes side x w sent_is given left taken starts reads =
     let r : ℕ × ℕ = (length now.taken, length now.given) in
     let all = each_last (ReadsWell role old got sent) x.reads r x.each (reads-now role old now got sent side x w sent_is) in
     record {
       reads = x.reads ++ r ∷ [];
       given = given ∙ ap (λ (l : List ℕ). l ++ bytes) x.given ∙ append_assoc old.given got bytes;
+      left = x.left ∙ ap (λ (l : List ℕ). got ++ l) left ∙ sym (append_assoc got bytes next.left);
       taken = taken ∙ x.taken;
       starts = starts ∙ x.starts;
       reads_are = reads ∙ ap (λ (l : List (ℕ × ℕ)). l ++ r ∷ []) x.reads_are ∙ append_assoc old.reads x.reads (r ∷ []);

@@ -6,11 +6,11 @@ use Rattle.np_model.specs.Journal.{end_line}
 use Rattle.np_model.specs.Alone.{Role, RefusesAt}
 use Rattle.np_ports.specs.Peer.{Known}
 use Rattle.np_endpoint.specs.End.{EndState, StandsFor}
-use Rattle.np_ending.specs.declared.ending.Ending.{Ending}
-use Rattle.np_ending.specs.declared.ending.Ending.TheVariants.{Done, Unsent, Ended, Failed, Refused}
-use Rattle.np_ending.specs.Causes.{BeginsWith}
-use Rattle.np_ending.specs.PeerCauses.{HasReason}
-use Rattle.np_ending.specs.Status.{status_of, IsRunStatus}
+use Rattle.np_end_stops.specs.declared.ending.Ending.{Ending}
+use Rattle.np_end_stops.specs.declared.ending.Ending.TheVariants.{Done, Unsent, Ended, Failed, Refused}
+use Rattle.np_end_stops.specs.Causes.{BeginsWith}
+use Rattle.np_end_stops.specs.PeerCauses.{HasReason}
+use Rattle.np_end_stops.specs.Status.{status_of, IsRunStatus}
 use Rattle.np_exchange.specs.Session.{Outcome, Told, Completed}
 use Rattle.np_exchange.specs.Closing.{EndsWith, CutSession, Closed, ClosedPart, IsUnrefusedStatus}
 use Rattle.np_exchange.specs.Live.{Live, Going, AtEnding, Turned, Talked, TurnCut}
@@ -31,7 +31,7 @@ starts-going role_of script e old first s = record {
     taken = [];
     printed = [];
     stands = s;
-    exchanged = record { reads = []; given = sym (append-nil old.given); taken = sym (append-nil old.taken); starts = refl; reads_are = sym (append-nil old.reads); each = tt };
+    exchanged = record { reads = []; given = sym (append-nil old.given); left = refl; taken = sym (append-nil old.taken); starts = refl; reads_are = sym (append-nil old.reads); each = tt };
     taken_part = record { rest = e.outgoing; parts = refl };
     sink_is = sym (append-nil first);
   };

@@ -2,10 +2,10 @@
 use Rattle.std.specs.Prelude.{◌≡◌, ℕ, ◌<◌, List, length, ◌⊎◌, Option, Some}
 use Rattle.np_model.specs.Alone.{Role}
 use Rattle.np_ports.specs.Peer.{Known}
-use Rattle.np_ending.specs.declared.ending.Ending.{Ending}
-use Rattle.np_ending.specs.PeerCauses.{HasReason}
-use Rattle.np_ending.specs.Status.{status_of}
-use Rattle.np_ending.specs.Causes.{BeginsWith}
+use Rattle.np_end_stops.specs.declared.ending.Ending.{Ending}
+use Rattle.np_end_stops.specs.PeerCauses.{HasReason}
+use Rattle.np_end_stops.specs.Status.{status_of, DONE, PEER_LOST, PIPE_FAILED}
+use Rattle.np_end_stops.specs.Causes.{BeginsWith}
 use Rattle.np_endpoint.specs.End.{EndState}
 use Rattle.np_exchange.specs.Session.{Outcome, Told, Interrupted}
 use Rattle.np_exchange.specs.Live.{AtEnding}
@@ -16,7 +16,7 @@ EndsWith outcome known0 known1 taken0 taken1 status = (ending : Ending) × (stat
 
 -- the statuses at which nothing was refused
 abbrev pub IsUnrefusedStatus : ℕ → Type 0
-IsUnrefusedStatus status = (status ≡ 0) ⊎ ((status ≡ 5) ⊎ (status ≡ 6))
+IsUnrefusedStatus status = (status ≡ DONE) ⊎ ((status ≡ PEER_LOST) ⊎ (status ≡ PIPE_FAILED))
 
 -- After the exchange came to this ending, the sink took a part of the lines that it takes at the status of the ending, and not all.
 pub record CutAtEnding (outcome : Ending → Outcome) (old : Known) (first : List ℕ) (new : Known) (sink : List ℕ) (ending : Ending) : Type 0 where

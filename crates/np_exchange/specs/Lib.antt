@@ -4,6 +4,6 @@ pub mod Flow
 pub mod Live
 pub use Rattle.np_model.specs.Alone
 pub use Rattle.np_endpoint.specs.End
-pub use Rattle.np_ending.specs.Causes
-pub use Rattle.np_ending.specs.PeerCauses
-pub use Rattle.np_ending.specs.Status
+pub use Rattle.np_end_stops.specs.Causes
+pub use Rattle.np_end_stops.specs.PeerCauses
+pub use Rattle.np_end_stops.specs.Status

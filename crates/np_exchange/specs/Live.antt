@@ -1,13 +1,14 @@
 -- An end in the midst of its exchange with a peer and a sink that tell their calls. (This project's own.)
-use Rattle.std.specs.Prelude.{◌≡◌, ℕ, ◌<◌, ◌^◌, List, [], ◌++◌, ◌⊎◌, Option, Some, None}
+use Rattle.std.specs.Prelude.{◌≡◌, ℕ, ◌+◌, ◌-◌, min, ◌<◌, ◌^◌, List, [], ◌++◌, ◌⊎◌, Bool, true, Option, Some, None, Result, Ok, Err}
+use Rattle.np_end_stops.specs.declared.stop.Stop.{Stop}
 use Rattle.np_model.specs.Alone.{Role, too_many_bytes}
 use Rattle.np_ports.specs.Peer.{Known}
 use Rattle.np_endpoint.specs.End.{EndState, StandsFor, Keeps, RestsAs, total_of}
 use Rattle.np_endpoint.specs.declared.halt.Halt.{Halt}
 use Rattle.np_endpoint.specs.declared.halt.Halt.TheVariants.{Waiting, Finished, Refused}
-use Rattle.np_ending.specs.declared.ending.Ending.{Ending}
-use Rattle.np_ending.specs.declared.ending.Ending.TheVariants as endings
-use Rattle.np_ending.specs.Causes.{Adds, AddsPart, BeginsWith}
+use Rattle.np_end_stops.specs.declared.ending.Ending.{Ending}
+use Rattle.np_end_stops.specs.declared.ending.Ending.TheVariants as endings
+use Rattle.np_end_stops.specs.Causes.{Adds, AddsPart, BeginsWith}
 use Rattle.np_exchange.specs.Session.{Exchanged, Interrupted}
 use Rattle.np_exchange.specs.Flow.{Printed, HeardBytes, HeardEnd, HeardFault}
 
@@ -35,16 +36,25 @@ Ends role_of taken sent e endings.Ended = (taken ≡ sent) × (e.outgoing ≡ []
 Ends role_of taken sent e endings.Failed = RestsAs role_of e Waiting
 Ends role_of taken sent e (endings.Refused r) = (e.state ≡ Refused r) ⊎ (RestsAs role_of e Waiting × (total_of e ≡ 2 ^ 40) × (r ≡ too_many_bytes))
 
+-- the peer has nothing left where the exchange ends by its end
+abbrev pub LeftAt : Ending → List ℕ → Type 0
+LeftAt endings.Done left = Unit {0}
+LeftAt endings.Unsent left = Unit {0}
+LeftAt endings.Ended left = left ≡ []
+LeftAt endings.Failed left = Unit {0}
+LeftAt (endings.Refused r) left = Unit {0}
+
 pub record AtEnding {S C : Type 0} (role_of : S → Role C) (script : S) (old : Known) (first : List ℕ) (now : Known) (sink : List ℕ) (e : EndState S C) (ending : Ending) : Type 0 where
   pub live : Live role_of script old first now sink e
   pub quiet : e.journal ≡ []
   pub ends : Ends role_of live.taken live.sent e ending
+  pub left : LeftAt ending now.left
 
 abbrev pub After : {S C : Type 0} → (S → Role C) → S → Known → List ℕ → Known → List ℕ → EndState S C → Option Ending → Type 0
 After role_of script old first now sink e None = Going role_of script old first now sink e
 After role_of script old first now sink e (Some ending) = AtEnding role_of script old first now sink e ending
 
--- a turn leads from one end to another, and the exchange goes on or ends
+-- a turn leads from one end to another, and the exchange continues or ends
 abbrev pub Turned : {S C : Type 0} → (S → Role C) → Option Known → Option Known → Option (List ℕ) → Option (List ℕ) → EndState S C → EndState S C → Option Ending → Type 0
 Turned {S} role_of known0 known1 taken0 taken1 e0 e1 ending =
     (script : S) (old now : Known) (first sink : List ℕ) → known0 ≡ Some now → taken0 ≡ Some sink → Going role_of script old first now sink e0 →
@@ -89,3 +99,30 @@ HeardOn role_of known0 known1 e0 e1 (Some endings.Unsent) = ⊥
 HeardOn role_of known0 known1 e0 e1 (Some endings.Ended) = HeardEnd known0 known1 e0 e1
 HeardOn role_of known0 known1 e0 e1 (Some endings.Failed) = HeardFault known0 known1 e0 e1
 HeardOn role_of known0 known1 e0 e1 (Some (endings.Refused r)) = ⊥
+
+-- the peer's count is one higher where the exchange ends by its fault, up to 2^64 - 1, and else as it was
+abbrev pub counted_turn : ℕ → Result (Option Ending) Stop → ℕ
+counted_turn n (Ok None) = n
+counted_turn n (Ok (Some endings.Done)) = n
+counted_turn n (Ok (Some endings.Unsent)) = min (n + 1) (2 ^ 64 - 1)
+counted_turn n (Ok (Some endings.Ended)) = n
+counted_turn n (Ok (Some endings.Failed)) = min (n + 1) (2 ^ 64 - 1)
+counted_turn n (Ok (Some (endings.Refused r))) = n
+counted_turn n (Err stop) = n
+
+abbrev pub counted_talk : ℕ → Result Ending Stop → ℕ
+counted_talk n (Ok ending) = counted_turn n (Ok (Some ending))
+counted_talk n (Err stop) = n
+
+abbrev pub ended_turn : Bool → Result (Option Ending) Stop → Bool
+ended_turn ended (Ok None) = ended
+ended_turn ended (Ok (Some endings.Done)) = ended
+ended_turn ended (Ok (Some endings.Unsent)) = ended
+ended_turn ended (Ok (Some endings.Ended)) = true
+ended_turn ended (Ok (Some endings.Failed)) = ended
+ended_turn ended (Ok (Some (endings.Refused r))) = ended
+ended_turn ended (Err stop) = ended
+
+abbrev pub ended_talk : Bool → Result Ending Stop → Bool
+ended_talk ended (Ok ending) = ended_turn ended (Ok (Some ending))
+ended_talk ended (Err stop) = ended

@@ -6,7 +6,7 @@ use Rattle.np_model.specs.Side.{SideState}
 use Rattle.np_model.specs.Journal.{end_line}
 use Rattle.np_model.specs.Alone.{Role, ComesTo, WaitsAt, EndsAt}
 use Rattle.np_ports.specs.Peer.{Known}
-use Rattle.np_ending.specs.Causes.{BeginsWith}
+use Rattle.np_end_stops.specs.Causes.{BeginsWith}
 
 -- At this read of a session in which the side got and sent these bytes in all, it waited for a message that wasn't whole, and the peer had taken all its messages so far.
 pub record ReadsWell {C : Type 0} (role : Role C) (old : Known) (got sent : List ℕ) (r : ℕ × ℕ) : Type 0 where
@@ -16,10 +16,11 @@ pub record ReadsWell {C : Type 0} (role : Role C) (old : Known) (got sent : List
   pub within_got : r.1 - length old.given ≤ length got
   pub within_sent : r.0 - length old.taken ≤ length sent
 
--- the peer gave and took these bytes, was not started, and each read came when the side waited
+-- the peer gave these bytes, off the front of what it had left, and took these; it was not started, and each read came when the side waited
 pub record Exchanged {C : Type 0} (role : Role C) (old new : Known) (got sent : List ℕ) : Type 0 where
   pub reads : List (ℕ × ℕ)
   pub given : new.given ≡ old.given ++ got
+  pub left : old.left ≡ got ++ new.left
   pub taken : new.taken ≡ old.taken ++ sent
   pub starts : new.starts ≡ old.starts
   pub reads_are : new.reads ≡ old.reads ++ reads

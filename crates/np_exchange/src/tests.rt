@@ -1,12 +1,12 @@
 //! What no clause says: that memory suffices, here for an end whose side has ended and left a line.
 use super::*;
-use np_ending::Ending;
+use np_end_stops::Ending;
 use np_endpoint::{Endpoint, Halt};
 use np_ports::{SurePeer, SureSink};
 use np_values::NoMemory;
 use std::test::*;
 
-/// An end whose side has ended without a message. It wants memory for any byte.
+/// An end whose side has ended without a message. It runs out of memory for any byte.
 #[derive(Drop)]
 struct EndedSide {
     journal: Vec<u8>,

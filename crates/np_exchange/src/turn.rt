@@ -2,25 +2,15 @@
 
 ghost use Rattle.std.specs.Prelude.{◌≡◌, ◌+◌, ◌≤◌, ◌<◌, ◌^◌, length, OnOk, OnErr, IfOk};
 ghost use Rattle.np_endpoint.specs.End.{total_of};
-ghost use Rattle.np_ending.specs.Causes.{SinkCause};
-ghost use Rattle.np_ending.specs.PeerCauses.{ReadCut, GoesOnOnly, IsMemoryOnly, EndingCause, EndedOnly};
-ghost use Rattle.np_exchange.specs.Live.{Ran, RanCut, Turned, TurnCut, HeardOn, RefusesUncalled};
+ghost use Rattle.np_end_stops.specs.Causes.{SinkCause, counted_output};
+ghost use Rattle.np_end_stops.specs.PeerCauses.{ReadCut, GoesOnOnly, IsMemoryOnly, EndingCause, EndedOnly};
+ghost use Rattle.np_exchange.specs.Live.{Ran, RanCut, Turned, TurnCut, HeardOn, RefusesUncalled, counted_turn, ended_turn};
 
 use crate::flow::{listen, print_journal, send_messages};
-use np_ending::{Ending, Heard, Stop};
-use np_endpoint::{Endpoint, Halt, Refusal, Rule};
+use np_end_stops::{Ending, Heard, Stop};
+use np_endpoint::{Endpoint, Halt};
+use np_model::{BYTE_LIMIT, TOO_MANY_BYTES};
 use np_ports::{Peer, Sink};
-
-/// As many bytes are read of a peer in all.
-pub const BYTE_LIMIT: u64 = 1 << 40;
-
-/// What is refused where more bytes are due than are ever read.
-pub const TOO_MANY_BYTES: Refusal = Refusal {
-    at: BYTE_LIMIT,
-    rule: Rule::Bytes,
-    first: BYTE_LIMIT,
-    second: 0,
-};
 
 /// Runs the end until it waits or ends, and prints what it wrote.
 pub fn run_and_print<E: Endpoint, O: Sink>(end: &mut E, out: &mut O) -> Result<Halt, Stop>
@@ -28,13 +18,14 @@ pub fn run_and_print<E: Endpoint, O: Sink>(end: &mut E, out: &mut O) -> Result<H
     ensures cut { OnErr result (RanCut E.role_of (O.taken out.old) (O.taken out.new) (E.seen end.old)) }
     ensures total { OnOk result (total_of (E.seen end.new) ≡ total_of (E.seen end.old)) }
     ensures cause { SinkCause (O.faults out.old) (O.faults out.new) result }
+    ensures count { O.faults out.new ≡ counted_output (O.faults out.old) result }
 {
     let halt = end.run()?;
     print_journal(end, out)?;
     Ok(halt)
 }
 
-/// Lets the end run, carries off what it has, and gives it what the peer sends; tells how the exchange
+/// Lets the end run, writes out what it has, and gives it what the peer sends; reports how the exchange
 /// ends, if it does. `total` counts the bytes that the end was given.
 pub fn turn<E: Endpoint, P: Peer, O: Sink>(
     end: &mut E,
@@ -53,9 +44,12 @@ pub fn turn<E: Endpoint, P: Peer, O: Sink>(
     ensures limit { OnOk result (total.new ≤ 2 ^ 40) }
     ensures more { IfOk result (λ ending. GoesOnOnly ending (total.old < total.new)) }
     ensures peer { EndingCause (P.pipe_faults peer.old) (P.pipe_faults peer.new) result }
+    ensures pipe_count { P.pipe_faults peer.new ≡ counted_turn (P.pipe_faults peer.old) result }
     ensures ended { EndedOnly (P.has_ended peer.new) result }
+    ensures ended_exact { P.has_ended peer.new ≡ ended_turn (P.has_ended peer.old) result }
     ensures start_faults { P.start_faults peer.new ≡ P.start_faults peer.old }
     ensures sink { SinkCause (O.faults out.old) (O.faults out.new) result }
+    ensures sink_count { O.faults out.new ≡ counted_output (O.faults out.old) result }
 {
     let halt = run_and_print(end, out)?;
     if let Halt::Refused(refusal) = halt {
@@ -91,7 +85,9 @@ fn hear<E: Endpoint, P: Peer>(
     ensures limit { OnOk result (total.new ≤ 2 ^ 40) }
     ensures more { IfOk result (λ ending. GoesOnOnly ending (total.old < total.new)) }
     ensures peer { EndingCause (P.pipe_faults peer.old) (P.pipe_faults peer.new) result }
+    ensures pipe_count { P.pipe_faults peer.new ≡ counted_turn (P.pipe_faults peer.old) result }
     ensures ended { EndedOnly (P.has_ended peer.new) result }
+    ensures ended_exact { P.has_ended peer.new ≡ ended_turn (P.has_ended peer.old) result }
     ensures start_faults { P.start_faults peer.new ≡ P.start_faults peer.old }
     ensures memory { IsMemoryOnly result }
 {

@@ -4,12 +4,12 @@ use Rattle.std.specs.Prelude.{IsOk}
 use Rattle.std.specs.Global.{Vec}
 use Rattle.np_values.specs.declared.name.Side.{Side}
 use Rattle.np_values.specs.declared.name.Side.TheVariants as sides
-use Rattle.np_grammar.specs.declared.refusal.ScriptError.{ScriptError}
-use Rattle.np_grammar.specs.Refusals.{FirstError}
+use Rattle.np_script_grammar.specs.declared.refusal.ScriptError.{ScriptError}
+use Rattle.np_script_grammar.specs.Refusals.{FirstError}
 use Rattle.np_script.specs.declared.error.ParseError.{ParseError}
 use Rattle.np_script.specs.declared.error.ParseError.TheVariants as errors
 use Rattle.np_ports.specs.Files.{Contents}
-use Rattle.np_ending.proofs.Fronts.{of-front, to-front, error-of-front, error-to-front}
+use Rattle.np_end_lines.proofs.Fronts.{of-front, to-front, error-of-front, error-to-front}
 use Rattle.np_host.specs.Check.{IsCanonicalOf}
 use Rattle.np_host.proofs.Pages.{WasRead}
 

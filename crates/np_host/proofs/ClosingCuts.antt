@@ -11,16 +11,16 @@ use Rattle.np_model.specs.PagePlan.{PageControl, page_plans, pace_at, lose}
 use Rattle.np_model.specs.HostRun.{GoesOnLost, IsAwaiting}
 use Rattle.np_model.specs.Alone.{page_role}
 use Rattle.np_model.proofs.Paces.{page-awaiting}
-use Rattle.np_laws.specs.Laws.{LostLaw, JournalLaw}
+use Rattle.np_model_laws.specs.Laws.{LostLaw, JournalLaw}
 use Rattle.np_ports.specs.Peer.{Known}
 use Rattle.np_endpoint.specs.End.{EndState, StandsFor}
 use Rattle.np_host_end.specs.HostEnd.{StandsLost, KeepsLost}
-use Rattle.np_ending.specs.declared.ending.Ending.{Ending}
-use Rattle.np_ending.specs.declared.ending.Ending.TheVariants.{Done, Unsent, Ended, Failed, Refused}
-use Rattle.np_ending.specs.Causes.{AddsPart, BeginsWith}
-use Rattle.np_ending.specs.Status.{ending_line}
-use Rattle.np_ending.proofs.EndLines.{some_behind, ending_line_is_some}
-use Rattle.np_ending.proofs.Parts.{begins-append, begins-then}
+use Rattle.np_end_stops.specs.declared.ending.Ending.{Ending}
+use Rattle.np_end_stops.specs.declared.ending.Ending.TheVariants.{Done, Unsent, Ended, Failed, Refused}
+use Rattle.np_end_stops.specs.Causes.{AddsPart, BeginsWith}
+use Rattle.np_end_lines.specs.Endings.{ending_line}
+use Rattle.np_end_lines.proofs.EndLines.{some_behind, ending_line_is_some}
+use Rattle.np_end_stops.proofs.Parts.{begins-append, begins-then}
 use Rattle.np_exchange.specs.Live.{AtEnding}
 use Rattle.np_exchange.specs.Closing.{ClosedPart}
 use Rattle.np_exchange.proofs.EndRests.{waits-at}

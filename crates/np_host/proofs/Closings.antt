@@ -13,10 +13,10 @@ use Rattle.np_model.specs.Alone.{page_role}
 use Rattle.np_ports.specs.Peer.{Known}
 use Rattle.np_endpoint.specs.End.{EndState, StandsFor}
 use Rattle.np_host_end.specs.HostEnd.{StandsLost, KeepsLost}
-use Rattle.np_ending.specs.declared.ending.Ending.{Ending}
-use Rattle.np_ending.specs.declared.ending.Ending.TheVariants.{Done, Unsent, Ended, Failed, Refused}
-use Rattle.np_ending.specs.Causes.{Adds}
-use Rattle.np_ending.specs.Status.{ending_line}
+use Rattle.np_end_stops.specs.declared.ending.Ending.{Ending}
+use Rattle.np_end_stops.specs.declared.ending.Ending.TheVariants.{Done, Unsent, Ended, Failed, Refused}
+use Rattle.np_end_stops.specs.Causes.{Adds}
+use Rattle.np_end_lines.specs.Endings.{ending_line}
 use Rattle.np_exchange.specs.Live.{AtEnding}
 use Rattle.np_exchange.specs.Closing.{Closed}
 use Rattle.np_exchange.proofs.EndRests.{waits-at, ends-at, total-is, all-taken}

@@ -10,14 +10,14 @@ use Rattle.np_ports.specs.Peer.{Known, started}
 use Rattle.np_ports.specs.Files.{Contents}
 use Rattle.np_model.specs.Alone.{page_role, WaitsAt, EndsAt, RefusesAt}
 use Rattle.np_model.proofs.Paces.{page-awaiting, page-ended}
-use Rattle.np_served.specs.Laws.{ServedPagesAreWellFormed}
-use Rattle.np_prefix.specs.Prefix.{WaitsLaw, EndsLaw, NeverRefusesLaw, FewBytesLaw}
-use Rattle.np_ending.specs.declared.ending.Ending.{Ending}
-use Rattle.np_ending.specs.declared.ending.Ending.TheVariants as endings
+use Rattle.np_model_scripts.specs.Laws.{ServedPagesAreWellFormed}
+use Rattle.np_model_wire_laws.specs.Prefix.{WaitsLaw, EndsLaw, NeverRefusesLaw, FewBytesLaw}
+use Rattle.np_end_stops.specs.declared.ending.Ending.{Ending}
+use Rattle.np_end_stops.specs.declared.ending.Ending.TheVariants as endings
 use Rattle.np_host.specs.Words.{HostCommand, Run, Check, Show, host_command}
 use Rattle.np_exchange.specs.Session.{ReadsWell, Exchanged, Completed}
 use Rattle.np_host.specs.Outcomes.{PeerEnded, PipeFailed, PeerRefused, OutcomeOf}
-use Rattle.np_ending.specs.Status.{status_of, IsRunStatus}
+use Rattle.np_end_stops.specs.Status.{status_of, IsRunStatus}
 use Rattle.np_host.specs.Host.{OfRun, RunsPage, RunsWords}
 use Rattle.np_host.specs.Main.{ReadFollows, FollowsExchange, HostDone, HostLost, HostBroken, HostRefused, FollowsPage, FollowsWords}
 

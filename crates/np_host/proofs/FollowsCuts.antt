@@ -7,19 +7,19 @@ use Rattle.np_model.specs.Journal.{end_line}
 use Rattle.np_model.specs.HostRun.{IsPluginText}
 use Rattle.np_ports.specs.Peer.{Known, started}
 use Rattle.np_ports.specs.Files.{Contents}
-use Rattle.np_served.specs.Laws.{ServedPagesAreWellFormed}
+use Rattle.np_model_scripts.specs.Laws.{ServedPagesAreWellFormed}
 use Rattle.np_model.specs.Alone.{page_role, ComesTo}
-use Rattle.np_prefix.specs.Prefix.{WaitsLaw, EndsLaw, BeginsLaw, ComesToRestLaw, NeverRefusesLaw, FewBytesLaw}
-use Rattle.np_ending.specs.declared.ending.Ending.{Ending}
-use Rattle.np_ending.specs.declared.ending.Ending.TheVariants as endings
+use Rattle.np_model_wire_laws.specs.Prefix.{WaitsLaw, EndsLaw, BeginsLaw, ComesToRestLaw, NeverRefusesLaw, FewBytesLaw}
+use Rattle.np_end_stops.specs.declared.ending.Ending.{Ending}
+use Rattle.np_end_stops.specs.declared.ending.Ending.TheVariants as endings
 use Rattle.np_host.specs.Words.{HostCommand, Run, Check, Show, host_command}
 use Rattle.np_exchange.specs.Session.{Exchanged, Interrupted}
 use Rattle.np_host.specs.Outcomes.{OutcomeOf, CutShort}
-use Rattle.np_ending.specs.Causes.{AddsPart}
+use Rattle.np_end_stops.specs.Causes.{AddsPart}
 use Rattle.np_host.specs.Host.{OfRun, RunCut, CutWords}
 use Rattle.np_host.specs.Main.{HostDone, HostLost, HostBroken, HostInterrupted, HostCut, ForEachPlugin}
 use Rattle.np_host.proofs.Follows.{exchange-follows, same-given, done-follows, lost-follows, broken-follows, never-refused}
-use Rattle.np_ending.proofs.Parts.{begins-then, messages-begin}
+use Rattle.np_end_stops.proofs.Parts.{begins-then, messages-begin}
 
 -- the laws that are used
 pub record RunLaws : Type 0 where

@@ -7,14 +7,14 @@ use Rattle.np_ports.specs.Files.{Contents}
 use Rattle.np_ports.specs.Causes.{Rose}
 use Rattle.np_ports.specs.declared.error.PortError.{PortError}
 use Rattle.np_ports.specs.declared.error.PortError.TheVariants as ports
-use Rattle.np_ending.specs.Causes.{AddsPart}
-use Rattle.np_ending.specs.ScriptLines.{ScriptRefusal, refusal_line}
-use Rattle.np_served.specs.Served.{SaysPage}
+use Rattle.np_end_stops.specs.Causes.{AddsPart}
+use Rattle.np_end_lines.specs.ScriptLines.{ScriptRefusal, refusal_line}
+use Rattle.np_model_scripts.specs.Served.{SaysPage}
 use Rattle.np_host.specs.Words.{HostCommand, Run, Check, Show, host_command}
 use Rattle.np_exchange.specs.Session.{Told}
 use Rattle.np_host.specs.Outcomes.{CutShort}
 use Rattle.np_host.specs.Host.{IsRefusedPage, IsDueEarly, RunCut, OfRun, CutWords}
-use Rattle.np_ending.proofs.EndLines.{nothing_added, end_line_is_some}
+use Rattle.np_end_lines.proofs.EndLines.{nothing_added, end_line_is_some}
 use Rattle.np_host.proofs.Pages.{WasRead, says-page, refused-file}
 
 -- ---- before the page began

@@ -6,7 +6,9 @@ use Rattle.std.proofs.lemmas.Bool.{le-leb}
 use Rattle.std.proofs.lemmas.List.{length-map}
 use Rattle.np_values.specs.declared.name.Side.{Side}
 use Rattle.np_host.specs.Words.{RunWords, HostCommand, Run, Check, Show, texts, run_of, IsRun}
-use Rattle.np_host.specs.Host.{OfRun, OfCheck, OfShow, IsNoShow}
+use Rattle.np_ports.specs.declared.file_call.FileCall.{FileCall}
+use Rattle.np_show.specs.Show.{NotesReadOnly}
+use Rattle.np_host.specs.Host.{OfRun, OfCheck, OfShow, IsNoShow, NotesScriptOnly}
 
 -- the command to run this page over this program
 abbrev running : List ℕ → List (List ℕ) → Option HostCommand
@@ -27,6 +29,10 @@ words-are plain program command first name run is same rest =
 
 pub of-words : (o : Option HostCommand) (r : RunWords) (P : RunWords → Type 0) (Q : Type 0) → o ≡ Some (Run r) → P r → OfRun o P Q
 of-words o r P Q is p = subst (λ (x : Option HostCommand). OfRun x P Q) (sym is) p
+
+-- the calls that failed are those of the page that the words name
+pub of-named : (o : Option HostCommand) (r : RunWords) (old new : Option (List (List ℕ × FileCall))) → o ≡ Some (Run r) → NotesReadOnly r.page old new → NotesScriptOnly o old new
+of-named o r old new is p = subst (λ (x : Option HostCommand). NotesScriptOnly x old new) (sym is) p
 
 -- a check of words that tell to run, and the other way round
 pub no-check : (o : Option HostCommand) (r : RunWords) (P : Side → List ℕ → Type 0) → o ≡ Some (Run r) → OfCheck o P

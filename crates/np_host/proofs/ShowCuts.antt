@@ -2,7 +2,7 @@
 use Rattle.std.proofs.Common.{ℕ, List, [], inl, inr, Option, Some, None, refl, ap, sym, ◌∙◌, append-nil, arith}
 use Rattle.np_ports.specs.Peer.{Known}
 use Rattle.np_ports.specs.Files.{Contents}
-use Rattle.np_ending.specs.Status.{IsRunStatus}
+use Rattle.np_end_stops.specs.Status.{IsRunStatus}
 use Rattle.np_show.specs.Listing.{file_listing}
 use Rattle.np_show.specs.Show.{ShowCut}
 use Rattle.np_show.proofs.Endings.{cut-early}

@@ -4,11 +4,11 @@ use Rattle.np_model.specs.declared.script.Page.{Page}
 use Rattle.np_ports.specs.Peer.{Known, started}
 use Rattle.np_ports.specs.Files.{Contents}
 use Rattle.np_model.specs.Alone.{page_role, RefusesNothing}
-use Rattle.np_prefix.specs.Prefix.{RestsUnrefusedLaw}
-use Rattle.np_ending.specs.declared.ending.Ending.{Ending}
-use Rattle.np_ending.specs.declared.ending.Ending.TheVariants as endings
+use Rattle.np_model_wire_laws.specs.Prefix.{RestsUnrefusedLaw}
+use Rattle.np_end_stops.specs.declared.ending.Ending.{Ending}
+use Rattle.np_end_stops.specs.declared.ending.Ending.TheVariants as endings
 use Rattle.np_host.specs.Words.{HostCommand, Run, Check, Show, host_command}
-use Rattle.np_ending.specs.Status.{status_of, IsRunStatus}
+use Rattle.np_end_stops.specs.Status.{status_of, IsRunStatus}
 use Rattle.np_model.specs.PagePlan.{PageControl}
 use Rattle.np_exchange.specs.Closing.{IsUnrefusedStatus}
 use Rattle.np_exchange.proofs.Sessions.{never-seven, unrefused-run}

@@ -3,18 +3,18 @@ use Rattle.std.specs.Prelude.{◌≡◌, ℕ, ◌^◌, ◌<◌, List, [], ◌++�
 use Rattle.np_model.specs.declared.script.Page.{Page}
 use Rattle.np_values.specs.declared.name.Side.{Side}
 use Rattle.np_values.specs.declared.name.Side.TheVariants as sides
-use Rattle.np_grammar.specs.Refusals.{FirstError}
+use Rattle.np_script_grammar.specs.Refusals.{FirstError}
 use Rattle.np_model.specs.Journal.{end_line}
 use Rattle.np_ports.specs.Peer.{Known, started}
 use Rattle.np_ports.specs.Files.{Contents}
 use Rattle.np_ports.specs.declared.file_call.FileCall.{FileCall}
 use Rattle.np_model.specs.Alone.{page_role, RefusesNothing}
-use Rattle.np_ending.specs.declared.ending.Ending.{Ending}
-use Rattle.np_ending.specs.Causes.{Adds, AddsPart, BeginsWith}
-use Rattle.np_ending.specs.ScriptLines.{ScriptRefusal, OfError, Unbuilt, refusal_line, IsEarlyLine}
-use Rattle.np_served.specs.Served.{SaysPage, IsUnbuiltPage}
+use Rattle.np_end_stops.specs.declared.ending.Ending.{Ending}
+use Rattle.np_end_stops.specs.Causes.{Adds, AddsPart, BeginsWith}
+use Rattle.np_end_lines.specs.ScriptLines.{ScriptRefusal, OfError, Unbuilt, refusal_line, IsEarlyLine}
+use Rattle.np_model_scripts.specs.Served.{SaysPage, IsUnbuiltPage}
 use Rattle.np_host.specs.Words.{RunWords, HostCommand, Run, Check, Show, host_command}
-use Rattle.np_ending.specs.Status.{status_of, IsRunStatus}
+use Rattle.np_end_stops.specs.Status.{status_of, IsRunStatus, BAD_SCRIPT, FILE_FAILED, NOT_STARTED, NO_MEMORY, OUTPUT_FAILED, PEER_LOST, USAGE}
 use Rattle.np_show.specs.Show.{NotesReadOnly}
 use Rattle.np_host.specs.Outcomes.{OutcomeOf}
 
@@ -30,9 +30,9 @@ abbrev pub RunsUnrefused : List ℕ → Option Contents → Option Known → Opt
 RunsUnrefused name files known0 known1 taken0 status =
     (f : Contents) (old : Known) (first : List ℕ) → files ≡ Some f → known0 ≡ Some old → taken0 ≡ Some first →
     (page : Page) × (new : Known) × (got : List ℕ) × SaysPage (f name) page × (known1 ≡ Some new) × (new.given ≡ old.given ++ got)
-    × RefusesNothing (page_role page) got × (status ≡ 5 → length got < 2 ^ 40)
+    × RefusesNothing (page_role page) got × (status ≡ PEER_LOST → length got < 2 ^ 40)
 
--- why bytes aren't served as a page: their first error, or a line that isn't served yet
+-- why bytes aren't served as a page: their first error, or a line that isn't supported yet
 abbrev pub IsRefusedPage : List ℕ → ScriptRefusal → Type 0
 IsRefusedPage bytes (OfError e) = FirstError sides.Page bytes e
 IsRefusedPage bytes Unbuilt = IsUnbuiltPage bytes
@@ -43,11 +43,11 @@ PrintsEarlyLine taken0 taken1 status = (line : List ℕ) × IsEarlyLine status l
 
 -- At 2, 3 and 4 the peer was not called, and one line alone was printed: at 2 and 4 the end line, at 3 that of a script that isn't served.
 abbrev pub StopsEarly : Option Known → Option Known → Option (List ℕ) → Option (List ℕ) → ℕ → Type 0
-StopsEarly known0 known1 taken0 taken1 status = (status ≡ 2) ⊎ ((status ≡ 3) ⊎ (status ≡ 4)) → (known1 ≡ known0) × PrintsEarlyLine taken0 taken1 status
+StopsEarly known0 known1 taken0 taken1 status = (status ≡ USAGE) ⊎ ((status ≡ BAD_SCRIPT) ⊎ (status ≡ FILE_FAILED)) → (known1 ≡ known0) × PrintsEarlyLine taken0 taken1 status
 
 -- at 11 the peer was only asked to start, and the end line alone was printed
 abbrev pub NotStarted : List (List ℕ) → Option Known → Option Known → Option (List ℕ) → Option (List ℕ) → ℕ → Type 0
-NotStarted program known0 known1 taken0 taken1 status = status ≡ 11 → ((old : Known) → known0 ≡ Some old → known1 ≡ Some (started old program)) × Adds taken0 taken1 (end_line 11)
+NotStarted program known0 known1 taken0 taken1 status = status ≡ NOT_STARTED → ((old : Known) → known0 ≡ Some old → known1 ≡ Some (started old program)) × Adds taken0 taken1 (end_line 11)
 
 -- This line was due before the page began: that of a file that isn't served, the end line of 4 where the file failed, or of 11 where the peer failed to start. Only at 11 was the peer called, to start.
 abbrev pub IsDueEarly : List ℕ → List (List ℕ) → Type 0 → Type 0 → Known → Known → List ℕ → Type 0
@@ -71,13 +71,13 @@ RunCut outcome name program file_failed start_failed files known0 known1 taken0 
     (new : Known) × (sink : List ℕ) × (known1 ≡ Some new) × (taken1 ≡ Some sink)
     × (CutEarly (f name) program file_failed start_failed old first new sink ⊎ ((page : Page) × SaysPage (f name) page × outcome page (started old program) first new sink))
 
--- where the files tell, the named one isn't served, and the line for that alone was printed
+-- for files that record their contents, the named one isn't served, and the line for that alone was printed
 abbrev pub RefusesPage : List ℕ → Option Contents → Option (List ℕ) → Option (List ℕ) → Type 0
 RefusesPage name files taken0 taken1 = (f : Contents) → files ≡ Some f → (r : ScriptRefusal) × IsRefusedPage (f name) r × Adds taken0 taken1 (refusal_line r)
 
 -- a file that isn't served gives 3, unless it can't be read
 abbrev pub OnlyRefused : List ℕ → Option Contents → ℕ → Type 0
-OnlyRefused name files status = (f : Contents) → files ≡ Some f → (r : ScriptRefusal) → IsRefusedPage (f name) r → (status ≡ 3) ⊎ (status ≡ 4)
+OnlyRefused name files status = (f : Contents) → files ≡ Some f → (r : ScriptRefusal) → IsRefusedPage (f name) r → (status ≡ BAD_SCRIPT) ⊎ (status ≡ FILE_FAILED)
 
 -- ---- the same, of the words of the command line
 
@@ -117,7 +117,7 @@ abbrev pub UnrefusedWords : List (List ℕ) → Option Contents → Option Known
 UnrefusedWords words files known0 known1 taken0 status = OfRun (host_command words) (λ r. RunsUnrefused r.page files known0 known1 taken0 status) ⊥
 
 abbrev pub NotStartedWords : List (List ℕ) → Option Known → Option Known → Option (List ℕ) → Option (List ℕ) → ℕ → Type 0
-NotStartedWords words known0 known1 taken0 taken1 status = OfRun (host_command words) (λ r. NotStarted r.program known0 known1 taken0 taken1 status) (status ≡ 11 → ⊥)
+NotStartedWords words known0 known1 taken0 taken1 status = OfRun (host_command words) (λ r. NotStarted r.program known0 known1 taken0 taken1 status) (status ≡ NOT_STARTED → ⊥)
 
 -- with words of another form the peer was not called, and a part of the end line of 2 was printed
 abbrev pub CutWords : (Page → Known → List ℕ → Known → List ℕ → Type 0) → List (List ℕ) → Type 0 → Type 0 → Option Contents → Option Known → Option Known → Option (List ℕ) → Option (List ℕ) → Type 0
@@ -140,10 +140,10 @@ abbrev pub NotesScriptOnly : Option HostCommand → Option (List (List ℕ × Fi
 NotesScriptOnly None old new = (l : List (List ℕ × FileCall)) → old ≡ Some l → new ≡ Some l
 NotesScriptOnly (Some command) old new = NotesReadOnly (file_named command) old new
 
--- want of memory, or the output failed
+-- out of memory, or the output failed
 abbrev pub IsCutShort : ℕ → Type 0
-IsCutShort status = (status ≡ 8) ⊎ (status ≡ 10)
+IsCutShort status = (status ≡ NO_MEMORY) ⊎ (status ≡ OUTPUT_FAILED)
 
 -- the statuses of a run that printed its end line
 abbrev pub IsEndStatus : ℕ → Type 0
-IsEndStatus status = ((status ≡ 2) ⊎ ((status ≡ 3) ⊎ ((status ≡ 4) ⊎ (status ≡ 11)))) ⊎ IsRunStatus status
+IsEndStatus status = ((status ≡ USAGE) ⊎ ((status ≡ BAD_SCRIPT) ⊎ ((status ≡ FILE_FAILED) ⊎ (status ≡ NOT_STARTED)))) ⊎ IsRunStatus status

@@ -8,9 +8,9 @@ pub mod Main
 pub use Rattle.np_model.specs.Alone
 pub use Rattle.np_exchange.specs.Session
 pub use Rattle.np_exchange.specs.Closing
-pub use Rattle.np_ending.specs.Causes
-pub use Rattle.np_ending.specs.PeerCauses
-pub use Rattle.np_ending.specs.Status
-pub use Rattle.np_ending.specs.ScriptLines
-pub use Rattle.np_served.specs.Served
+pub use Rattle.np_end_stops.specs.Causes
+pub use Rattle.np_end_stops.specs.PeerCauses
+pub use Rattle.np_end_stops.specs.Status
+pub use Rattle.np_end_lines.specs.ScriptLines
+pub use Rattle.np_model_scripts.specs.Served
 pub use Rattle.np_show.specs.Show

@@ -11,11 +11,11 @@ use Rattle.np_model.specs.HostRun.{HostRests, GoesOnLost, IsAwaiting, IsPluginTe
 use Rattle.np_model.specs.Journal.{end_line}
 use Rattle.np_ports.specs.Peer.{Known, started}
 use Rattle.np_ports.specs.Files.{Contents}
-use Rattle.np_prefix.specs.Prefix.{IsWhole}
-use Rattle.np_served.specs.Served.{SaysPage}
+use Rattle.np_model_wire_laws.specs.Prefix.{IsWhole}
+use Rattle.np_model_scripts.specs.Served.{SaysPage}
 use Rattle.np_host.specs.Words.{host_command}
 use Rattle.np_host.specs.Host.{OfRun}
-use Rattle.np_ending.specs.Causes.{BeginsWith}
+use Rattle.np_end_stops.specs.Causes.{BeginsWith}
 
 -- Before this read the peer had taken all that the page sends in the run that only the whole messages given by then reach.
 pub record ReadFollows (page : Page) (plugin : Plugin) (old : Known) (given taken : List ℕ) (r : ℕ × ℕ) : Type 0 where

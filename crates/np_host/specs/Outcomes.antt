@@ -9,9 +9,9 @@ use Rattle.np_model.specs.HostRun.{GoesOnLost}
 use Rattle.np_model.specs.Journal.{end_line, refused_line}
 use Rattle.np_model.specs.Alone.{page_role, WaitsAt, EndsAt, RefusesAt}
 use Rattle.np_ports.specs.Peer.{Known}
-use Rattle.np_ending.specs.declared.ending.Ending.{Ending}
-use Rattle.np_ending.specs.declared.ending.Ending.TheVariants.{Done, Unsent, Ended, Failed, Refused}
-use Rattle.np_ending.specs.Causes.{BeginsWith}
+use Rattle.np_end_stops.specs.declared.ending.Ending.{Ending}
+use Rattle.np_end_stops.specs.declared.ending.Ending.TheVariants.{Done, Unsent, Ended, Failed, Refused}
+use Rattle.np_end_stops.specs.Causes.{BeginsWith}
 use Rattle.np_exchange.specs.Session.{Exchanged, Outcome, Completed}
 use Rattle.np_exchange.specs.Closing.{CutSession}
 

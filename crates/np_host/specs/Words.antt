@@ -24,7 +24,7 @@ pub data HostCommand : Type 0 where
 abbrev pub is_option : List ℕ → Bool
 is_option word = nat_le 2 (length word) && slice_index word 0 == 45
 
--- the plain words: the first `--` is left out and all words behind it are plain; before it no word is an option
+-- the plain words: the first `--` is left out and all words after it are plain; before it no word is an option
 abbrev pub plain_words : List (List ℕ) → Option (List (List ℕ))
 plain_words [] = Some []
 plain_words (word ∷ words) =

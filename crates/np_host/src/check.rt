@@ -2,18 +2,19 @@
 
 ghost use Rattle.std.specs.Prelude.{◌≡◌, ◌⊎◌, ◌++◌, ℕ, List, Ok, Err, IfOk, IsOk, OnOk, OnErr};
 ghost use Rattle.np_values.specs.declared.name.Side.TheVariants.{Page as of_page, Plug as of_plugin};
-ghost use Rattle.np_grammar.specs.declared.refusal.ScriptError.{ScriptError as ErrorValue};
-ghost use Rattle.np_grammar.specs.Refusals.{FirstError};
+ghost use Rattle.np_script_grammar.specs.declared.refusal.ScriptError.{ScriptError as ErrorValue};
+ghost use Rattle.np_script_grammar.specs.Refusals.{FirstError};
 ghost use Rattle.np_ports.specs.Causes.{Rose};
-ghost use Rattle.np_ending.specs.Causes.{Adds, AddsPart, SinkCause};
+ghost use Rattle.np_end_stops.specs.Causes.{Adds, AddsPart, SinkCause, counted_output};
 ghost use Rattle.np_show.specs.Show.{KeepsFiles, NotesReadOnly};
 ghost use Rattle.np_host.specs.Host.{PrintsEarlyLine};
 ghost use Rattle.np_host.specs.Check.{IsCanonicalOf, PrintsCanonical, PrintsError, OnlyChecked, CheckCut, IsCheckStatus};
+ghost use Rattle.np_end_stops.specs.Status.{BAD_SCRIPT, DONE, FILE_FAILED};
 
-use np_ending::{Stop, finish, finish_script};
-use np_ports::{Files, PortError, Sink};
+use np_end_lines::{finish, finish_script};
+use np_end_stops::{Stop, exit_status};
+use np_ports::{Files, PortError, Sink, print_all, read_script};
 use np_script::{ParseError, parse_page, parse_plugin, print_page, print_plugin};
-use np_transfer::{print_all, read_script};
 use np_values::{NoMemory, Side};
 use std::alloc::Global;
 
@@ -68,13 +69,14 @@ fn canonical_text(alloc: Global, side: Side, bytes: &[u8]) -> Result<Vec<u8>, Pa
 
 /// Prints a text alone, and answers 0.
 fn print_text<O: Sink>(out: &mut O, text: &[u8]) -> Result<u8, Stop>
-    ensures status { IfOk result (λ s. s ≡ 0) }
+    ensures status { IfOk result (λ s. s ≡ DONE) }
     ensures printed { OnOk result (Adds (O.taken out.old) (O.taken out.new) text.now) }
     ensures part { OnErr result (AddsPart (O.taken out.old) (O.taken out.new) text.now) }
     ensures cause { SinkCause (O.faults out.old) (O.faults out.new) result }
+    ensures count { O.faults out.new ≡ counted_output (O.faults out.old) result }
 {
     match print_all(out, text) {
-        Ok(()) => Ok(0),
+        Ok(()) => Ok(exit_status::DONE),
         Err(PortError::Failed) => Err(Stop::OutputFailed),
         Err(PortError::NoMemory) => Err(Stop::NoMemory),
     }
@@ -89,20 +91,22 @@ pub fn check<F: Files, O: Sink>(
     files: &mut F,
     out: &mut O,
 ) -> Result<u8, Stop>
-    ensures done { IfOk result (λ status. status ≡ 0 → PrintsCanonical side name.now (F.contents files.old) (O.taken out.old) (O.taken out.new)) }
-    ensures refused { IfOk result (λ status. status ≡ 3 → PrintsError side name.now (F.contents files.old) (O.taken out.old) (O.taken out.new)) }
+    ensures done { IfOk result (λ status. status ≡ DONE → PrintsCanonical side name.now (F.contents files.old) (O.taken out.old) (O.taken out.new)) }
+    ensures refused { IfOk result (λ status. status ≡ BAD_SCRIPT → PrintsError side name.now (F.contents files.old) (O.taken out.old) (O.taken out.new)) }
     ensures only { IfOk result (λ status. OnlyChecked side name.now (F.contents files.old) status) }
     ensures cut { OnErr result (CheckCut side name.now (Rose (F.faults files.old) (F.faults files.new)) (F.contents files.old) (O.taken out.old) (O.taken out.new)) }
-    ensures early { IfOk result (λ status. (status ≡ 3) ⊎ (status ≡ 4) → PrintsEarlyLine (O.taken out.old) (O.taken out.new) status) }
+    ensures early { IfOk result (λ status. (status ≡ BAD_SCRIPT) ⊎ (status ≡ FILE_FAILED) → PrintsEarlyLine (O.taken out.old) (O.taken out.new) status) }
     ensures listed { IfOk result (λ status. IsCheckStatus status) }
-    ensures file { IfOk result (λ status. status ≡ 4 → Rose (F.faults files.old) (F.faults files.new)) }
+    ensures file { IfOk result (λ status. status ≡ FILE_FAILED → Rose (F.faults files.old) (F.faults files.new)) }
+    ensures file_only { IfOk result (λ status. (status ≡ FILE_FAILED) ⊎ (F.faults files.new ≡ F.faults files.old)) }
     ensures sink { SinkCause (O.faults out.old) (O.faults out.new) result }
+    ensures sink_count { O.faults out.new ≡ counted_output (O.faults out.old) result }
     ensures files { KeepsFiles (F.contents files.old) (F.contents files.new) }
     ensures failed_calls { NotesReadOnly name.now (F.failed_calls files.old) (F.failed_calls files.new) }
 {
     let bytes = match read_script(alloc, files, name) {
         Ok(bytes) => bytes,
-        Err(PortError::Failed) => return finish(alloc, out, 4),
+        Err(PortError::Failed) => return finish(alloc, out, exit_status::FILE_FAILED),
         Err(PortError::NoMemory) => return Err(Stop::NoMemory),
     };
     match canonical_text(alloc, side, &bytes) {

@@ -1,29 +1,31 @@
 //! A page over a started peer and a sink, from its first call to the status of the run.
 
-ghost use Rattle.std.specs.Prelude.{◌≡◌, OnOk, OnErr, IfOk, true};
+ghost use Rattle.std.specs.Prelude.{◌≡◌, OnOk, OnErr, IfOk, true, ◌⊎◌};
 ghost use Rattle.np_model.specs.Script.{commands_fit};
 ghost use Rattle.np_model.specs.Alone.{page_role};
 ghost use Rattle.np_ports.specs.Causes.{Rose};
-ghost use Rattle.np_ending.specs.Causes.{SinkCause};
-ghost use Rattle.np_ending.specs.PeerCauses.{SessionCause, SessionEnded};
-ghost use Rattle.np_ending.specs.Status.{status_of, IsRunStatus};
+ghost use Rattle.np_end_stops.specs.Causes.{SinkCause, counted_output};
+ghost use Rattle.np_end_stops.specs.PeerCauses.{SessionCause, SessionEnded};
+ghost use Rattle.np_end_stops.specs.Status.{status_of, IsRunStatus, PIPE_FAILED, PEER_LOST};
 ghost use Rattle.np_exchange.specs.Session.{Told};
 ghost use Rattle.np_exchange.specs.Closing.{EndsWith, Closed, ClosedPart};
 ghost use Rattle.np_host.specs.Outcomes.{OutcomeOf, CutShort};
 ghost use Rattle.np_host.specs.Losing.{Loses, LosesPart};
 
-use np_ending::{Ending, Stop, finish, finish_refused};
+use np_end_lines::{finish, finish_refused};
+use np_end_stops::{Ending, Stop, exit_status};
 use np_exchange::{print_journal, talk};
 use np_host_end::{HostEnd, Page};
-use np_laws::{journal_law, lost_law};
+use np_model_laws::{journal_law, lost_law};
 use np_ports::{Peer, Sink};
 use std::alloc::Global;
 
-/// The peer is lost: the page goes on alone, and what it writes is printed.
+/// The peer is lost: the page continues alone, and what it writes is printed.
 fn lose<O: Sink>(end: &mut HostEnd, out: &mut O) -> Result<(), Stop>
     ensures lost { OnOk result (Loses (O.taken out.old) (O.taken out.new) end.old) }
     ensures cut { OnErr result (LosesPart (O.taken out.old) (O.taken out.new) end.old) }
     ensures sink { SinkCause (O.faults out.old) (O.faults out.new) result }
+    ensures sink_count { O.faults out.new ≡ counted_output (O.faults out.old) result }
 {
     lost_law();
     journal_law();
@@ -38,17 +40,18 @@ fn close<O: Sink>(alloc: Global, ending: Ending, end: &mut HostEnd, out: &mut O)
     ensures cut { OnErr result (ClosedPart page_role OutcomeOf (O.taken out.old) (O.taken out.new) end.old ending) }
     ensures status { IfOk result (λ status. status ≡ status_of ending) }
     ensures sink { SinkCause (O.faults out.old) (O.faults out.new) result }
+    ensures sink_count { O.faults out.new ≡ counted_output (O.faults out.old) result }
 {
     match ending {
-        Ending::Done => finish(alloc, out, 0),
-        Ending::Unsent => finish(alloc, out, 6),
+        Ending::Done => finish(alloc, out, exit_status::DONE),
+        Ending::Unsent => finish(alloc, out, exit_status::PIPE_FAILED),
         Ending::Ended => {
             lose(end, out)?;
-            finish(alloc, out, 5)
+            finish(alloc, out, exit_status::PEER_LOST)
         }
         Ending::Failed => {
             lose(end, out)?;
-            finish(alloc, out, 6)
+            finish(alloc, out, exit_status::PIPE_FAILED)
         }
         Ending::Refused(refusal) => {
             lose(end, out)?;
@@ -70,8 +73,11 @@ pub fn session<P: Peer, O: Sink>(
     ensures status { IfOk result (λ status. IsRunStatus status) }
     ensures peer { SessionCause (P.pipe_faults peer.old) (P.pipe_faults peer.new) result }
     ensures ended { SessionEnded (P.has_ended peer.new) result }
+    ensures pipe_only { IfOk result (λ status. (status ≡ PIPE_FAILED) ⊎ (P.pipe_faults peer.new ≡ P.pipe_faults peer.old)) }
+    ensures ended_only { IfOk result (λ status. (status ≡ PEER_LOST) ⊎ (P.has_ended peer.new ≡ P.has_ended peer.old)) }
     ensures start_faults { P.start_faults peer.new ≡ P.start_faults peer.old }
     ensures sink { SinkCause (O.faults out.old) (O.faults out.new) result }
+    ensures sink_count { O.faults out.new ≡ counted_output (O.faults out.old) result }
 {
     let mut end = HostEnd::new(alloc, page)?;
     let ending = talk(&mut end, peer, out)?;

@@ -41,7 +41,7 @@ fn plain_words(alloc: Global, words: &[String]) -> Result<Option<Vec<String>>, N
     Ok(Some(plain))
 }
 
-/// The page, the program and its arguments, in this order, of the words behind `run`; `None` where they are
+/// The page, the program and its arguments, in this order, of the words after `run`; `None` where they are
 /// of another form.
 fn run_words(alloc: Global, words: &[String]) -> Result<Option<Vec<String>>, NoMemory>
     ensures run { IfOk result (λ plain. GivesRun plain (command_of run_of (plain_words_of (texts words.now)))) }
@@ -69,7 +69,7 @@ fn side_named(word: &str) -> Option<Side>
     None
 }
 
-/// The side and the file of the words behind `check`; `None` where they are of another form.
+/// The side and the file of the words after `check`; `None` where they are of another form.
 fn check_words(alloc: Global, words: &[String]) -> Result<Option<(Side, String)>, NoMemory>
     ensures check { IfOk result (λ check. GivesCheck check (command_of check_of (plain_words_of (texts words.now)))) }
 {
@@ -87,7 +87,7 @@ fn check_words(alloc: Global, words: &[String]) -> Result<Option<(Side, String)>
     Ok(Some((side, String::from_str(alloc, file.as_str())?)))
 }
 
-/// The file of the words behind `show`; `None` where they are of another form.
+/// The file of the words after `show`; `None` where they are of another form.
 fn show_words(alloc: Global, words: &[String]) -> Result<Option<String>, NoMemory>
     ensures show { IfOk result (λ show. GivesShow show (command_of show_of (plain_words_of (texts words.now)))) }
 {

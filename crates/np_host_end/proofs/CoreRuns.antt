@@ -13,7 +13,7 @@ use Rattle.np_model.specs.HostRun.{IsAwaiting}
 use Rattle.np_model.specs.Alone.{page_role}
 use Rattle.np_model.specs.Refused.{RefusedBy}
 use Rattle.np_model.proofs.Paces.{page-awaits}
-use Rattle.np_laws.specs.Laws.{MoreMessagesLaw}
+use Rattle.np_model_laws.specs.Laws.{MoreMessagesLaw}
 use Rattle.np_endpoint.specs.End.{EndState, Keeps, HasPace, RestsAs}
 use Rattle.np_endpoint.specs.declared.halt.Halt.{Halt}
 use Rattle.np_endpoint.specs.declared.halt.Halt.TheVariants.{Waiting, Finished, Refused}

@@ -8,7 +8,7 @@ use Rattle.np_model.specs.Side.{Micro}
 use Rattle.np_model.specs.Run.{Accepts}
 use Rattle.np_model.specs.PagePlan.{PageControl, go_plan, meet_plan}
 use Rattle.np_model.specs.Steps.{control_after}
-use Rattle.np_laws.proofs.Weights.{control_weight, Lighter, begin-lighter, ready-lighter, unanswered-lighter, Light, light}
+use Rattle.np_model_laws.proofs.Weights.{control_weight, Lighter, begin-lighter, ready-lighter, unanswered-lighter, Light, light}
 use Rattle.np_host_end.specs.Core.{IsActing}
 
 -- what is left to do: for the page, and for the bytes that weren't read

@@ -32,7 +32,7 @@ IsUnrefused Waiting = Unit {0}
 IsUnrefused Finished = Unit {0}
 IsUnrefused (Refused r) = ⊥
 
--- The end of this page whose plug-in was lost when the page's side was p: that side goes on without messages. Of its messages the bytes `sent` were cut off, and of its journal `printed`.
+-- The end of this page whose plug-in was lost when the page's side was p: that side continues without messages. Of its messages the bytes `sent` were cut off, and of its journal `printed`.
 pub record StandsLost (page : Page) (p : SideState PageControl) (sent printed : List ℕ) (e : EndState Page PageControl) : Type 0 where
   pub same_script : e.script ≡ page
   pub side : SideState PageControl

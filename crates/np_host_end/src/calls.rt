@@ -6,7 +6,7 @@ ghost use Rattle.np_message.specs.Rules.{KeepsKind};
 ghost use Rattle.np_model.specs.PagePlan.{at_level_1};
 
 use np_message::{Depth, Message, Payload};
-use np_proxy::Releases;
+use np_proxy_release::Releases;
 use np_values::NoMemory;
 use np_wire::encode;
 use std::alloc::Global;

@@ -14,9 +14,9 @@ use std::alloc::Global;
 use std::marker::Model;
 
 /// The browser end of a page, as a machine from the plug-in's bytes to the page's. It reads and writes
-/// nothing itself: its owner gives it bytes by `take`, lets it `run`, and carries off what is in
+/// nothing itself: its owner gives it bytes by `take`, lets it `run`, and writes out what is in
 /// `outgoing` and `journal`. Where memory ran out it has failed for good, and what it has made since its
-/// last call that went well is not to be carried off any more. (This project's own.)
+/// last call that went well is not to be written out any more. (This project's own.)
 #[derive(Drop)]
 pub struct HostEnd {
     core: Core,
@@ -68,7 +68,7 @@ impl HostEnd {
         })
     }
 
-    /// What `run` answered last; `Waiting` before the first run and after `gone`. A run that wanted memory
+    /// What `run` answered last; `Waiting` before the first run and after `gone`. A run that ran out of memory
     /// leaves it.
     pub fn state(&self) -> &State
         ensures same { result.now ≡ self.now.state }
@@ -91,7 +91,7 @@ impl HostEnd {
     }
 
     /// Gives it further bytes of the plug-in, in whatever chunks they come; they are copied. It takes at
-    /// most 2^40 bytes in all. After want of memory every later call of it and of `run` answers the same.
+    /// most 2^40 bytes in all. Once memory ran out, every later call of it and of `run` answers the same.
     pub fn take(&mut self, bytes: &[u8]) -> Result<(), NoMemory>
         requires room { total_of self.old + length bytes.now ≤ 2 ^ 40 }
         ensures stands { OnOk result ((page : Page) (got sent printed : List ℕ) →
@@ -144,14 +144,14 @@ impl HostEnd {
         self.core.journal.drain(..n);
     }
 
-    /// Goes on until it waits for a message that isn't whole yet, has ended, or refuses a message. It is
+    /// Continues until it waits for a message that isn't whole yet, has ended, or refuses a message. It is
     /// finished where the reply to Shutdown was delivered, or the page ended after the plug-in was lost.
-    /// After a refusal every later run answers the same until `gone`, and after want of memory for good.
+    /// After a refusal every later run answers the same until `gone`, and for good once memory ran out.
     pub fn run(&mut self) -> Result<State, NoMemory>
         ensures keeps { OnOk result (Keeps page_role self.old self.new) }
         ensures rests { IfOk result (λ state. RestsAs page_role self.new state) }
 
-        // A page whose plug-in is lost goes on alone, and waits for nothing.
+        // A page whose plug-in is lost continues alone, and waits for nothing.
         ensures keeps_lost { OnOk result (KeepsLost self.old self.new) }
         ensures lost { IfOk result (λ state.
             (page : Page) (p : SideState PageControl) (sent printed : List ℕ) →
@@ -161,7 +161,7 @@ impl HostEnd {
         ensures err { OnErr result (self.new.failed ≡ true) }
         ensures state { OnErr result (self.new.state ≡ self.old.state) }
 
-        // Want of memory, a refusal and the end are answered again from then on, and nothing changes.
+        // Out of memory, a refusal and the end are answered again from then on, and nothing changes.
         ensures again { self.old.failed ≡ true → OnOk result ⊥ }
         ensures stays { self.old.failed ≡ true → self.new ≡ self.old }
         ensures refused { (refusal : Refusal) → self.old.state ≡ Refused refusal →
@@ -188,7 +188,7 @@ impl HostEnd {
         }
     }
 
-    /// The plug-in is lost; the page goes on alone at the next run, without a message and a call. It may be
+    /// The plug-in is lost; the page continues alone at the next run, without a message and a call. It may be
     /// called at any time, and again.
     pub fn gone(&mut self)
         ensures lost { (page : Page) (got sent printed : List ℕ) →

@@ -5,8 +5,8 @@ ghost use Rattle.np_model.specs.declared.page.Stage.TheVariants.{Awaiting};
 
 use crate::host_core::Core;
 use np_endpoint::Halt;
-use np_laws::more_messages_law;
 use np_model::{Outstanding, Refusal, Stage};
+use np_model_laws::more_messages_law;
 use np_values::NoMemory;
 use np_wire::FeedError;
 
@@ -17,7 +17,7 @@ impl Core {
     ghost use Rattle.np_host_end.specs.Core.{Listened};
     ghost use Rattle.np_endpoint.specs.declared.halt.Halt.TheVariants.{Waiting};
 
-    /// Goes on until the page waits or has ended, or refuses a message.
+    /// Continues until the page waits or has ended, or refuses a message.
     pub fn run(&mut self) -> Result<Halt, NoMemory>
         ensures keeps { IfOk result (λ state.
             Keeps page_role (seen self.old Waiting false) (seen self.new state false)) }
@@ -41,7 +41,7 @@ impl Core {
         }
     }
 
-    /// Meets the next message; where it can't go on, what it waits for or refuses.
+    /// Meets the next message; where it can't continue, what it waits for or refuses.
     fn listen(&mut self, call: Outstanding) -> Result<Option<Halt>, NoMemory>
         requires stage { self.old.stage ≡ Awaiting call }
         ensures listened { IfOk result (λ halt. Listened self.old self.new halt) }

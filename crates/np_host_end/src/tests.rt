@@ -23,37 +23,6 @@ const CODE_0: &[u8] = b"\0\0\0\x05\x45\x01\0\0\0";
 
 const DONE: &[u8] = b"\0\0\0\x04\x47\x01\0\0";
 
-// Calls of instance 2, with the number of their kind.
-const OTHER_CALLS: [(&[u8], u64); 13] = [
-    (b"\0\0\0\x05\x04\x01\0\0\x02", 4),
-    (b"\0\0\0\x11\x06\x01\0\0\x02\0\0\0\x01\0\0\0\0\0\0\0\0", 6),
-    (b"\0\0\0\x09\x07\x01\0\0\x02\0\0\0\x01", 7),
-    (b"\0\0\0\x10\x08\x01\0\0\x02\0\0\0\x01\0\0\0\0\0\x01\x07", 8),
-    (b"\0\0\0\x0b\x09\x01\0\0\x02\0\0\0\x01\0\0", 9),
-    (b"\0\0\0\x0a\x0a\x01\0\0\x02\0\0\0\x01\0", 10),
-    (b"\0\0\0\x0c\x0b\x01\0\0\x02\0\0\0\0\0\0\x01", 11),
-    (b"\0\0\0\x05\x20\x01\0\0\x02", 32),
-    (b"\0\0\0\x0b\x21\x01\0\0\x02\0\0\0\0\0\x01", 33),
-    (
-        b"\0\0\0\x12\x22\x01\0\0\x02\0\0\0\x01\x01\0\0\0\0\0\0\0\x01",
-        34,
-    ),
-    (b"\0\0\0\x0a\x23\x01\0\0\x02\0\0\0\x01\x01", 35),
-    (b"\0\0\0\x0a\x40\x01\0\0\x02\0\0\0\x01\x09", 64),
-    (
-        b"\0\0\0\x10\x40\x01\0\0\x02\0\0\0\x01\x05\x01\0\0\0\x05\0",
-        64,
-    ),
-];
-
-const OTHER_REPLIES: [(&[u8], u64); 5] = [
-    (b"\0\0\0\x05\x41\x01\0\0\0", 65),
-    (b"\0\0\0\x04\x42\x01\0\0", 66),
-    (b"\0\0\0\x06\x43\x01\0\0\0\0", 67),
-    (b"\0\0\0\x05\x44\x01\0\0\0", 68),
-    (b"\0\0\0\x08\x46\x01\0\0\0\0\0\x01", 70),
-];
-
 // The bytes of the plug-in, what is to come of them, and the journal where it is lost after them.
 #[derive(Drop)]
 struct Row<'a> {
@@ -89,7 +58,7 @@ fn joined(alloc: Global, parts: &[&[u8]]) -> Result<Vec<u8>, Fail> {
     Ok(bytes)
 }
 
-// What was carried off an end.
+// What was written out an end.
 #[derive(Drop)]
 struct Carried {
     outgoing: Vec<u8>,
@@ -116,7 +85,7 @@ fn carry_journal(end: &mut HostEnd, most: usize, to: &mut Vec<u8>) -> Result<(),
     Ok(())
 }
 
-// Cuts off what the end has made, at most so many bytes of each.
+// Cuts off what the end has made, at most this many bytes of each.
 fn carry_off(end: &mut HostEnd, most: usize, carried: &mut Carried) -> Result<(), Fail>
     ensures { OnOk result (total_of end.new ≡ total_of end.old) }
 {
@@ -153,7 +122,7 @@ fn refused(at: u64, rule: Rule, first: u64, second: u64) -> State {
     })
 }
 
-// What was carried off is what the row says, and this is the journal.
+// What was written out is what the row says, and this is the journal.
 fn same_carried(
     rt: &impl Abort,
     alloc: Global,
@@ -248,7 +217,7 @@ fn worked_examples(rt: HostRuntime) -> Result<(), Fail> {
             journal: b"1: error 3\n2: true void\n",
             lost: b"1: error 3\n2: true void\n",
         },
-        // The instance is destroyed only behind the reply that gives its object back.
+        // The instance is destroyed only after the reply that gives its object back.
         Row {
             given: &[
                 CODE_0,
@@ -267,96 +236,4 @@ fn worked_examples(rt: HostRuntime) -> Result<(), Fail> {
         runs(&rt, rt.alloc(), row, 4096)?;
     }
     Ok(())
-}
-
-#[test]
-fn refusals(rt: HostRuntime) -> Result<(), Fail> {
-    let rows: [(&'static [u8], State); 15] = [
-        (b"\0\0\0\x03", refused(18, Rule::Length, 3, 32768)),
-        (b"\0\0\0\x04\x48\x01\0\0", refused(22, Rule::Item, 18, 4)),
-        (b"\0\0\0\x05\x47\x01\0\0\0", refused(26, Rule::Rest, 18, 5)),
-        (TURN, refused(18, Rule::WrongKind, 5, 0)),
-        (DESTROY, refused(18, Rule::WrongKind, 3, 1)),
-        (
-            b"\0\0\0\x04\x47\x02\0\0",
-            refused(18, Rule::Unmatched, 2, 1),
-        ),
-        (CODE_0, refused(18, Rule::Unmatched, 1, 1)),
-        (
-            b"\0\0\0\x04\x47\x81\0\0",
-            refused(18, Rule::Unmatched, 129, 1),
-        ),
-        // Releases of the live instance, of one that was never made, and behind other rules.
-        (
-            b"\0\0\0\x0d\x47\x01\0\x01\x01\0\0\0\x07\0\0\0\x01",
-            refused(18, Rule::Unknown, 1, 7),
-        ),
-        (
-            b"\0\0\0\x0d\x47\x01\0\x01\x02\0\0\x01\0\0\0\0\x01",
-            refused(18, Rule::Unknown, 2, 256),
-        ),
-        (
-            b"\0\0\0\x0d\x42\x01\0\x01\x01\0\0\0\x07\0\0\0\x01",
-            refused(18, Rule::WrongKind, 66, 0),
-        ),
-        (
-            b"\0\0\0\x0d\x47\x02\0\x01\x01\0\0\0\x07\0\0\0\x01",
-            refused(18, Rule::Unmatched, 2, 1),
-        ),
-        (
-            b"\0\0\0\x0e\x45\x01\0\x01\x01\0\0\0\x07\0\0\0\x01\0",
-            refused(18, Rule::Unmatched, 1, 1),
-        ),
-        (
-            b"\0\0\0\x0d\x47\x01\0\x01\x01\0\0\0\0\0\0\0\x01",
-            refused(26, Rule::Item, 18, 13),
-        ),
-        (
-            b"\0\0\0\x04\x47\x01\x04\x01",
-            refused(24, Rule::Item, 18, 4),
-        ),
-    ];
-    for (last, state) in rows {
-        let row = Row {
-            given: &[CODE_0, CODE_0, last],
-            state,
-            outgoing: &[HELLO, NEW, TURN],
-            journal: b"1: error 0\n",
-            lost: b"1: error 0\n2: false\n",
-        };
-        runs(&rt, rt.alloc(), &row, 1)?;
-        runs(&rt, rt.alloc(), &row, 4096)?;
-    }
-    Ok(())
-}
-
-// A turn is open, and this is what comes of a message that no call of the page is answered by.
-fn runs_other(
-    rt: &impl Abort,
-    alloc: Global,
-    last: &[u8],
-    kind: u64,
-    instance: u64,
-) -> Result<(), Fail> {
-    let row = Row {
-        given: &[CODE_0, CODE_0, last],
-        state: refused(18, Rule::WrongKind, kind, instance),
-        outgoing: &[HELLO, NEW, TURN],
-        journal: b"1: error 0\n",
-        lost: b"1: error 0\n2: false\n",
-    };
-    runs(rt, alloc, &row, 4096)
-}
-
-#[test]
-fn other_kinds(rt: HostRuntime) -> Result<(), Fail> {
-    for (last, kind) in OTHER_CALLS {
-        runs_other(&rt, rt.alloc(), last, kind, 2)?;
-    }
-    for (last, kind) in OTHER_REPLIES {
-        runs_other(&rt, rt.alloc(), last, kind, 0)?;
-    }
-    runs_other(&rt, rt.alloc(), HELLO, 1, 0)?;
-    runs_other(&rt, rt.alloc(), NEW, 2, 1)?;
-    runs_other(&rt, rt.alloc(), SHUTDOWN, 12, 0)
 }

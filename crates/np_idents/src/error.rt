@@ -2,7 +2,7 @@ use np_values::NoMemory;
 use std::alloc::AllocError;
 use thiserror::Error;
 
-/// Why a text is no identifier, or that memory ran out.
+/// Why a text wasn't made into an identifier.
 #[derive(Clone, Copy, Debug, PartialEq, Eq, Error)]
 pub enum IdentError {
     /// There are more than 256 bytes.

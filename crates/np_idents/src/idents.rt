@@ -14,7 +14,7 @@ pub struct Ident {
 }
 
 impl Ident {
-    /// Whether both are the same identifier of one table.
+    /// Compares two identifiers of one table in constant time.
     pub fn same(self, other: Ident) -> bool
         ensures value { IsTrue result ↔ (self.place ≡ other.place) }
     {
@@ -49,7 +49,7 @@ impl Model for Idents {
 impl Idents {
     ghost use Rattle.np_idents.specs.declared.key.IdKey.TheVariants.{Str, Int};
 
-    /// No identifier. It takes no memory yet.
+    /// A table without identifiers. It allocates with the first one.
     pub fn new(alloc: Global) -> Idents
         ensures value { result ≡ [] }
     {
@@ -58,7 +58,8 @@ impl Idents {
         }
     }
 
-    /// The identifier of a string. (npruntime.h, NPN_GetStringIdentifier.)
+    /// Interns a string: the same text gives the same identifier. `TooLong` means more than 256 bytes,
+    /// `NoMemory` that memory ran out; the table is then as it was. (npruntime.h, NPN_GetStringIdentifier.)
     pub fn string(&mut self, text: &str) -> Result<Ident, IdentError>
         ensures ok { IfOk result (λ id. Interns self.old (Str text.now) self.new id.place) }
         ensures too_long { IsErrOf result IdentError.TooLong ↔ 256 < length text.now }
@@ -70,7 +71,8 @@ impl Idents {
         Ok(self.intern(key)?)
     }
 
-    /// The identifier of an integer. (npruntime.h, NPN_GetIntIdentifier.)
+    /// Interns an integer. An `Err` means that memory ran out; the table is then as it was. (npruntime.h,
+    /// NPN_GetIntIdentifier.)
     pub fn int(&mut self, number: i32) -> Result<Ident, NoMemory>
         ensures ok { IfOk result (λ id. Interns self.old (Int number) self.new id.place) }
         ensures err { OnErr result (self.new ≡ self.old) }

@@ -13,11 +13,11 @@ pub enum IdKey {
     Int(i32),
 }
 
-/// A list of keys.
+/// Identifiers in their order, such as the result of an enumeration, at most 64.
 pub type Keys = Seq<IdKey>;
 
 impl IdKey {
-    /// An equal key of its own.
+    /// An equal key with bytes of its own. An `Err` means that memory ran out.
     pub fn try_copy(&self, alloc: Global) -> Result<IdKey, NoMemory>
         ensures value { IfOk result (λ copy. copy ≡ self.now) }
     {
@@ -27,7 +27,8 @@ impl IdKey {
         }
     }
 
-    /// Appends the printed form: a string as a quoted text, an integer as a number in base 10.
+    /// Appends the key as journals print it: a string as a quoted text, an integer in base 10. An `Err` means
+    /// that memory ran out; `out` is then as it was.
     pub fn print(&self, out: &mut Vec<u8>) -> Result<(), NoMemory>
         ensures ok { OnOk result (out.new.items ≡ out.old.items ++ printed_key self.now) }
         ensures err { OnErr result (out.new.items ≡ out.old.items) }

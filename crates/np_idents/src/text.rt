@@ -29,7 +29,7 @@ impl Model for IdText {
 }
 
 impl IdText {
-    /// The identifier of this text, copied.
+    /// Copies a text into an identifier. `TooLong` means more than 256 bytes, `NoMemory` that memory ran out.
     #[tactic(auto, using(crate::proofs::IdTexts::is_valid))]
     pub fn new(alloc: Global, text: &str) -> Result<IdText, IdentError>
         ensures value { IfOk result (λ t. t ≡ text.now) }
@@ -44,7 +44,7 @@ impl IdText {
         })
     }
 
-    /// Its text.
+    /// Lends the text, at most 256 bytes.
     #[tactic(auto, using(crate::proofs::IdTexts::is_short))]
     pub fn as_str(&self) -> &str
         ensures same { result.now ≡ self.now }
@@ -54,7 +54,7 @@ impl IdText {
         self.text.as_str()
     }
 
-    /// An equal text of its own.
+    /// An equal text with bytes of its own. An `Err` means that memory ran out.
     pub fn try_copy(&self, alloc: Global) -> Result<IdText, NoMemory>
         ensures value { IfOk result (λ copy. copy ≡ self.now) }
     {

@@ -12,7 +12,7 @@ use Rattle.np_idents.specs.declared.key.IdKey.TheVariants.{Str, Int}
 use Rattle.np_idents.specs.declared.op.Op.TheVariants as ops
 use Rattle.np_message.specs.declared.payload.Payload.{Payload}
 use Rattle.np_message.specs.declared.payload.Payload.TheVariants.{Hello, New, Destroy, Scriptable, Turn, NewStream, WriteReady, Write, AsFile, DestroyStream, Notify, Shutdown, Window, GetUrl, RequestRead, EndStream, Call, True, Threw, Idents, Code, Number, Done}
-use Rattle.np_proxy.specs.declared.release.Release.{Release}
+use Rattle.np_proxy_release.specs.declared.release.Release.{Release}
 use Rattle.np_message.specs.Message.{Message}
 use Rattle.np_message.specs.declared.wire.WireKind.{WireKind}
 use Rattle.np_message.specs.declared.wire.WireKind.TheVariants.{Length, Item, Rest}

@@ -11,8 +11,8 @@ use Rattle.np_values.specs.declared.value.Value.TheVariants as values
 use Rattle.np_idents.specs.IdText.{is_id_text}
 use Rattle.np_idents.specs.declared.key.IdKey.{IdKey}
 use Rattle.np_idents.specs.declared.key.IdKey.TheVariants.{Str, Int}
-use Rattle.np_proxy.specs.declared.release.Release.{Release}
-use Rattle.np_proxy.specs.Release.{is_behind}
+use Rattle.np_proxy_release.specs.declared.release.Release.{Release}
+use Rattle.np_proxy_release.specs.Release.{is_behind}
 use Rattle.np_message.specs.declared.depth.Depth.{Depth}
 use Rattle.np_message.specs.declared.wire.WireKind.{WireKind}
 use Rattle.np_message.specs.declared.wire.WireKind.TheVariants.{Length, Item as ItemRule, Rest}
@@ -21,13 +21,13 @@ use Rattle.np_message.specs.Message.{Message}
 use Rattle.np_message.specs.Items.{Item, KindItem, DepthItem, ByteItem, CountItem, NumberItem, IntItem, TextItem, BytesItem, IdentItem, ValueItem, CodeItem, ReasonItem, ReleaseItem, Holds, is_within, is_kind}
 use Rattle.np_message.specs.Formats.{Format, Says, Then, message_format}
 
--- a reading goes on with what was read, and stops at the first fault
+-- a reading continues with what was read, and stops at the first fault
 infixl 10 ◌>>=◌
 abbrev pub ◌>>=◌ : {A B E : Type 0} → Result A E → (A → Result B E) → Result B E
 (Ok x) >>= f = f x
 (Err e) >>= f = Err e
 
--- what was read and the bytes behind it; or how many bytes are left from the first byte of the item that isn't of its form
+-- what was read and the bytes after it; or how many bytes are left from the first byte of the item that isn't of its form
 abbrev pub Reading : Type 0 → Type 0
 Reading A = Result (A × List ℕ) ℕ
 
@@ -128,7 +128,7 @@ abbrev pub read_value : List ℕ → Reading Value
 read_value [] = no_item []
 read_value (tag ∷ bs) = at_start (tag ∷ bs) (read_typed tag bs)
 
--- instance, serial and times, behind the release before
+-- instance, serial and times, after the release before
 unfoldable pub read_entry : Option Release → List ℕ → Reading Release
 read_entry before bytes = do
   instance ← read_tested (is_within 1 255) bytes
@@ -162,7 +162,7 @@ abbrev pub read : {A : Type 0} → Format A → List ℕ → Reading A
 read (Says x) bytes = Ok (x, bytes)
 read (Then item next) bytes = read_item item bytes >>= (λ x. read (next x.0) x.1)
 
--- a body, behind which nothing may follow; or the rule that it breaks, and how many bytes are left from there
+-- a body, after which nothing may follow; or the rule that it breaks, and how many bytes are left from there
 abbrev pub whole : Reading Message → Result Message (WireKind × ℕ)
 whole (Ok m) = if nat_lt 0 (length m.1) then Err (Rest, length m.1) else Ok m.0
 whole (Err left) = Err (ItemRule, left)

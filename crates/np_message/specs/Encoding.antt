@@ -14,7 +14,7 @@ use Rattle.np_idents.specs.declared.key.IdKey.{IdKey}
 use Rattle.np_idents.specs.declared.key.IdKey.TheVariants.{Str, Int}
 use Rattle.np_idents.specs.declared.op.Op.{Op}
 use Rattle.np_idents.specs.declared.op.Op.TheVariants as ops
-use Rattle.np_proxy.specs.declared.release.Release.{Release}
+use Rattle.np_proxy_release.specs.declared.release.Release.{Release}
 use Rattle.np_message.specs.declared.payload.Payload.{Payload}
 use Rattle.np_message.specs.declared.payload.Payload.TheVariants.{Hello, New, Destroy, Scriptable, Turn, NewStream, WriteReady, Write, AsFile, DestroyStream, Notify, Shutdown, Window, GetUrl, RequestRead, EndStream, Call, True, False, Threw, Idents, Code, Number, Done}
 use Rattle.np_message.specs.declared.depth.Depth.{Depth}
@@ -83,7 +83,7 @@ op_code (ops.HasMethod key) = 7
 op_code (ops.HasProperty key) = 8
 op_code ops.Enumerate = 9
 
--- arguments behind their number
+-- arguments after their number
 abbrev pub arguments_items : List Value → List ℕ
 arguments_items arguments = length arguments ∷ flat_map value_item arguments
 
@@ -159,7 +159,7 @@ items_of Done = []
 abbrev pub depth_byte : Depth → ℕ
 depth_byte depth = if depth.task then depth.level + 128 else depth.level
 
--- the releases behind their number in two bytes
+-- the releases after their number in two bytes
 abbrev pub releases_items : List Release → List ℕ
 releases_items releases = to_be_bytes w16 (length releases) ++ flat_map release_item releases
 
@@ -171,7 +171,7 @@ body_of m = kind_of m.body ∷ depth_byte m.depth ∷ releases_items m.releases 
 unfoldable pub encoding : Message → List ℕ
 encoding m = to_be_bytes w32 (length (body_of m)) ++ body_of m
 
--- the bytes of each message behind those of the one before
+-- the bytes of each message after those of the one before
 abbrev pub encodings : List Message → List ℕ
 encodings [] = []
 encodings (m ∷ messages) = encoding m ++ encodings messages

@@ -21,14 +21,14 @@ abbrev pub Encodes : {A : Type 0} → Format A → A → List ℕ → Type 0
 Encodes (Says x) y bytes = (x ≡ y) × (bytes ≡ [])
 Encodes (Then item next) y bytes = (x : Holds item) × (rest : List ℕ) × Begins item bytes x rest × Encodes (next x) y rest
 
--- an item is due at this place, behind the items before it, and none of its form begins there
+-- an item is due at this place, after the items before it, and none of its form begins there
 abbrev pub FaultAt : {A : Type 0} → Format A → List ℕ → ℕ → Type 0
 FaultAt (Says x) bytes at = ⊥
 FaultAt (Then item next) bytes at =
     (NoneBegins item bytes × (at ≡ 0))
     ⊎ ((x : Holds item) × (rest : List ℕ) × (further : ℕ) × Begins item bytes x rest × FaultAt (next x) rest further × (at ≡ length (spelled item x) + further))
 
--- at this place, behind the last item, more bytes follow
+-- at this place, after the last item, more bytes follow
 pub record RestAt {A : Type 0} (format : Format A) (bytes : List ℕ) (at : ℕ) : Type 0 where
   pub items : List ℕ
   pub rest : List ℕ
@@ -40,7 +40,7 @@ pub record RestAt {A : Type 0} (format : Format A) (bytes : List ℕ) (at : ℕ)
 
 -- ---- the first fault of a message
 
--- the bytes are the four of a length field with this value, and then those behind it
+-- the bytes are the four of a length field with this value, and then those after it
 pub record HasLength (bytes : List ℕ) (value : ℕ) (behind : List ℕ) : Type 0 where
   pub field : List ℕ
   pub parts : bytes ≡ field ++ behind

@@ -5,7 +5,7 @@ use Rattle.np_values.specs.declared.value.Value.{Value}
 use Rattle.np_idents.specs.declared.key.IdKey.{IdKey}
 use Rattle.np_idents.specs.declared.op.Op.{Op}
 use Rattle.np_idents.specs.declared.op.Op.TheVariants as ops
-use Rattle.np_proxy.specs.declared.release.Release.{Release}
+use Rattle.np_proxy_release.specs.declared.release.Release.{Release}
 use Rattle.np_message.specs.declared.payload.Payload.{Payload}
 use Rattle.np_message.specs.declared.payload.Payload.TheVariants.{Hello, New, Destroy, Scriptable, Turn, NewStream, WriteReady, Write, AsFile, DestroyStream, Notify, Shutdown, Window, GetUrl, RequestRead, EndStream, Call, True, False, Threw, Idents, Code, Number, Done}
 use Rattle.np_message.specs.declared.depth.Depth.{Depth}
@@ -17,17 +17,17 @@ pub data Format (A : Type 0) : Type 0 where
   Says : A → Format A
   Then : (item : Item) → (Holds item → Format A) → Format A
 
--- so many items of a form
+-- this many items of a form
 abbrev pub many : {A : Type 0} → (item : Item) → ℕ → (List (Holds item) → Format A) → Format A
 many item zero next = next []
 many item (suc n) next = Then item (λ x. many item n (λ xs. next (x ∷ xs)))
 
--- so many ranges, each of which is two items
+-- this many ranges, each of which is two items
 abbrev pub many_ranges : {A : Type 0} → ℕ → (List Range → Format A) → Format A
 many_ranges zero next = next []
 many_ranges (suc n) next = Then IntItem (λ offset. Then (NumberItem 0) (λ size. many_ranges n (λ ranges. next (record { offset = offset; length = size } ∷ ranges))))
 
--- so many releases, each behind the one before
+-- this many releases, each after the one before
 abbrev pub many_releases : {A : Type 0} → Option Release → ℕ → (List Release → Format A) → Format A
 many_releases before zero next = next []
 many_releases before (suc n) next = Then (ReleaseItem before) (λ r. many_releases (Some r) n (λ releases. next (r ∷ releases)))

@@ -7,8 +7,8 @@ use Rattle.np_values.specs.declared.value.Value.{Value}
 use Rattle.np_values.specs.NpError.{code_of}
 use Rattle.np_values.specs.NpReason.{reason_code}
 use Rattle.np_idents.specs.declared.key.IdKey.{IdKey}
-use Rattle.np_proxy.specs.declared.release.Release.{Release}
-use Rattle.np_proxy.specs.Release.{IsRelease, IsTypedRelease, is_behind}
+use Rattle.np_proxy_release.specs.declared.release.Release.{Release}
+use Rattle.np_proxy_release.specs.Release.{IsRelease, IsTypedRelease, is_behind}
 use Rattle.np_message.specs.declared.depth.Depth.{Depth}
 use Rattle.np_message.specs.Encoding.{number_item, int_item, counted_item, ident_item, value_item, release_item, depth_byte}
 use Rattle.np_message.specs.Rules.{Each, IsByte, IsNumber, IsText, IsTypedKey, KeepsValue, IsTypedValue}

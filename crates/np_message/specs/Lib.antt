@@ -10,4 +10,4 @@ pub use Rattle.np_values.specs.Text
 pub use Rattle.np_values.specs.NpError
 pub use Rattle.np_values.specs.NpReason
 pub use Rattle.np_idents.specs.IdText
-pub use Rattle.np_proxy.specs.Release
+pub use Rattle.np_proxy_release.specs.Release

@@ -1,6 +1,6 @@
 -- A message by its parts. (This project's own.)
 use Rattle.std.specs.Prelude.{List}
-use Rattle.np_proxy.specs.declared.release.Release.{Release}
+use Rattle.np_proxy_release.specs.declared.release.Release.{Release}
 use Rattle.np_message.specs.declared.depth.Depth.{Depth}
 use Rattle.np_message.specs.declared.payload.Payload.{Payload}
 

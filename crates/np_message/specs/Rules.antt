@@ -11,7 +11,7 @@ use Rattle.np_idents.specs.declared.key.IdKey.{IdKey}
 use Rattle.np_idents.specs.declared.key.IdKey.TheVariants.{Str, Int}
 use Rattle.np_idents.specs.declared.op.Op.{Op}
 use Rattle.np_idents.specs.declared.op.Op.TheVariants as ops
-use Rattle.np_proxy.specs.Release.{AreRising, AreTypedReleases}
+use Rattle.np_proxy_release.specs.Release.{AreRising, AreTypedReleases}
 use Rattle.np_message.specs.declared.payload.Payload.{Payload}
 use Rattle.np_message.specs.declared.payload.Payload.TheVariants.{Hello, New, Destroy, Scriptable, Turn, NewStream, WriteReady, Write, AsFile, DestroyStream, Notify, Shutdown, Window, GetUrl, RequestRead, EndStream, Call, True, False, Threw, Idents, Code, Number, Done}
 use Rattle.np_message.specs.Message.{Message}

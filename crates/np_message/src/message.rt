@@ -1,5 +1,5 @@
 use crate::{Depth, Payload};
-use np_proxy::Releases;
+use np_proxy_release::Releases;
 use std::marker::Model;
 
 /// A call or a reply from one side to the other, which keeps every rule of the wire format, seen as its parts.
@@ -26,7 +26,7 @@ impl Message {
     ghost use Rattle.std.specs.Prelude.{◌≡◌};
     ghost use Rattle.np_message.specs.Rules.{KeepsFormat};
 
-    /// A message of these parts.
+    /// Makes a message. The caller has seen that the parts keep every rule of the format.
     pub fn new(depth: Depth, releases: Releases, body: Payload) -> Message
         requires rules { KeepsFormat (record { depth = depth; releases = releases; body = body }) }
         ensures value { result ≡ record { depth = depth; releases = releases; body = body } }
@@ -38,7 +38,7 @@ impl Message {
         }
     }
 
-    /// The place of the call, or of the call that a reply answers.
+    /// Where the call stands among the open calls; a reply has the depth of its call.
     pub fn depth(&self) -> Depth
         ensures value { result ≡ self.now.depth }
         ensures rules { KeepsFormat self.now }
@@ -46,7 +46,7 @@ impl Message {
         self.depth
     }
 
-    /// The references that it gives back, in rising order of their names.
+    /// Lends the references that the sender gives back, at most 1,024, sorted by name.
     pub fn releases(&self) -> &Releases
         ensures same { result.now ≡ self.now.releases }
         ensures rules { KeepsFormat self.now }
@@ -54,7 +54,7 @@ impl Message {
         &self.releases
     }
 
-    /// What it says.
+    /// Lends the call or the reply.
     pub fn body(&self) -> &Payload
         ensures same { result.now ≡ self.now.body }
         ensures rules { KeepsFormat self.now }
@@ -62,7 +62,7 @@ impl Message {
         &self.body
     }
 
-    /// What it says, given away.
+    /// Takes the call or the reply out of the message, without a copy.
     pub fn into_body(self) -> Payload
         ensures same { result ≡ self.body }
         ensures rules { KeepsFormat self }

@@ -1,6 +1,6 @@
 -- What becomes of a meeting once the releases are looked at.
 use Rattle.std.proofs.Common.{◌≡◌, ℕ, List, [], Option, Some, None, refl, ap}
-use Rattle.np_proxy.specs.declared.release.Release.{Release}
+use Rattle.np_proxy_release.specs.declared.release.Release.{Release}
 use Rattle.np_message.specs.Message.{Message}
 use Rattle.np_model.specs.declared.page.Phase.{Phase}
 use Rattle.np_model.specs.declared.refusal.Rule.{Rule}

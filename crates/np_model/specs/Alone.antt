@@ -29,7 +29,7 @@ plugin_role plugin = record { plans = plugin_plans plugin; start = plugin_start 
 abbrev pub MoreMessages : Type 0 → Type 0
 MoreMessages C = (S : Plans C) (got more : List Message) (turns : ℕ) (from : SideState C) → (k : ℕ) × (endpoint_run S (got ++ more) k from ≡ endpoint_run S got turns from)
 
--- with these bytes the side comes to p: the messages that it examined begin them, and `left` stands behind these
+-- with these bytes the side comes to p: the messages that it examined begin them, and `left` stands after these
 pub record ComesTo {C : Type 0} (role : Role C) (got : List ℕ) (p : SideState C) : Type 0 where
   pub turns : ℕ
   pub left : List ℕ
@@ -50,7 +50,7 @@ pub record EndsAt {C : Type 0} (role : Role C) (got : List ℕ) (p : SideState C
 
 -- ---- refusals
 
--- The side awaits a message, and refuses what stands at the front of `left`, the bytes behind the messages that it examined.
+-- The side awaits a message, and refuses what stands at the front of `left`, the bytes after the messages that it examined.
 pub record IsRefusal {C : Type 0} (role : Role C) (p : SideState C) (left : List ℕ) (r : Refusal) : Type 0 where
   pub awaits : role.plans.pace p ≡ Awaits
   pub read : List ℕ  -- the bytes that had come by then

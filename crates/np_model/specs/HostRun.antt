@@ -18,7 +18,7 @@ start_of page = record { page = at_start (page_start page); plugin = at_start pl
 abbrev pub HostRests : Page → Plugin → ℕ → SideState PageControl → Type 0
 HostRests page plugin k p = PageRests (page_plans page) (plugin_plans plugin) (start_of page) k p
 
--- the page goes on alone from p, where the plug-in is lost, and ends at q
+-- the page continues alone from p, where the plug-in is lost, and ends at q
 abbrev pub GoesOnLost : Page → SideState PageControl → SideState PageControl → Type 0
 GoesOnLost page p q = RestsAt (page_plans page) [] (lose p) q
 

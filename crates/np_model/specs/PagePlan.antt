@@ -113,7 +113,7 @@ lost_plan c (calls.Destroy instance) = Control c ∷ []
 lost_plan c calls.Turn = Control c ∷ (Print (false_line c.number) ∷ [])
 lost_plan c calls.Shutdown = Control c ∷ []
 
--- a call that was open stays without its reply; else the page goes on
+-- a call that was open stays without its reply; else the page continues
 abbrev pub unanswered : Stage → Stage
 unanswered Begin = Ready
 unanswered Ready = Ready
@@ -149,7 +149,7 @@ pace_at Ended = HasEnded
 
 -- ---- replies
 
--- the page goes on after a reply, and writes these lines
+-- the page continues after a reply, and writes these lines
 abbrev pub resumes : PageControl → List ℕ → Meeting PageControl
 resumes c lines = Accepts (Deliver ∷ (Control (record c { stage = Ready }) ∷ (Print lines ∷ [])))
 
@@ -201,7 +201,7 @@ meet_at c m stage = unmatched m
 abbrev pub answer_plan : PageControl → Message → Meeting PageControl
 answer_plan c m = if may_answer m.body then meet_at c m c.stage else Refuses WrongKind (kind_of m.body) (instance_of m.body)
 
--- behind that its releases are looked at
+-- after that its releases are looked at
 abbrev pub meet_plan : PageControl → Message → Meeting PageControl
 meet_plan c m = settled c.phases m (answer_plan c m)
 

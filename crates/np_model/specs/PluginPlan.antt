@@ -97,7 +97,7 @@ lines_of_call plugin call = []
 abbrev pub reply_message : Plugin → Message → Message
 reply_message plugin m = record { depth = m.depth; releases = []; body = reply_to plugin m.body }
 
--- a call that is served: it is delivered, the plug-in goes on, prints its lines and replies
+-- a call that is served: it is delivered, the plug-in continues, prints its lines and replies
 abbrev pub serve_plan : Plugin → PluginControl → Message → List (Micro PluginControl)
 serve_plan plugin c m =
     Deliver ∷ (Control (control_after_call plugin c m.body) ∷ (Print (lines_of_call plugin m.body) ∷ (Send (reply_message plugin m) ∷ [])))
@@ -112,7 +112,7 @@ hear_plan plugin c m =
     else if m.depth.task then Refuses Place (depth_byte m.depth) 0
     else Accepts (serve_plan plugin c m)
 
--- behind that the message's releases are looked at
+-- after that the message's releases are looked at
 abbrev pub plugin_meet : Plugin → PluginControl → Message → Meeting PluginControl
 plugin_meet plugin c m = settled c.phases m (hear_plan plugin c m)
 

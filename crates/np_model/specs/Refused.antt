@@ -16,7 +16,7 @@ rule_of Length = rules.Length
 rule_of Item = rules.Item
 rule_of Rest = rules.Rest
 
--- the refusal of bytes that are no message
+-- the refusal of bytes that aren't a message
 abbrev pub refusal_of : WireError → Refusal
 refusal_of e = record { at = e.at; rule = rule_of e.kind; first = e.first; second = e.second }
 

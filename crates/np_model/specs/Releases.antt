@@ -1,6 +1,6 @@
 -- The releases that a message carries, while no object is handed out. (This project's own.)
 use Rattle.std.specs.Prelude.{ℕ, ◌-◌, List, Bool, true, false, not, find, Option, Some, None, unwrap_or, slice_get}
-use Rattle.np_proxy.specs.declared.release.Release.{Release}
+use Rattle.np_proxy_release.specs.declared.release.Release.{Release}
 use Rattle.np_message.specs.Message.{Message}
 use Rattle.np_model.specs.declared.page.Phase.{Phase}
 use Rattle.np_model.specs.declared.page.Phase.TheVariants.{Absent, Live, Destroying, Dead}
@@ -32,7 +32,7 @@ abbrev pub accepts_unless : {C : Type 0} → Option Release → List (Micro C) �
 accepts_unless None steps = Accepts steps
 accepts_unless (Some r) steps = Refuses Unknown r.instance r.serial
 
--- Behind all other rules: a message that would be accepted is refused by its first release of an object that isn't out.
+-- After all other rules: a message that would be accepted is refused by its first release of an object that isn't out.
 abbrev pub settled : {C : Type 0} → List Phase → Message → Meeting C → Meeting C
 settled phases m (Accepts steps) = accepts_unless (unknown_release phases m.releases) steps
 settled phases m (Refuses rule first second) = Refuses rule first second

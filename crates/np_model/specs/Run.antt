@@ -67,7 +67,7 @@ pub data Side : Type 0 where
   OfPage : Side
   OfPlugin : Side
 
--- the messages that come through a gate: all, or the first so many
+-- the messages that come through a gate: all, or the first this many
 abbrev pub through : Option ℕ → List Message → List Message
 through None messages = messages
 through (Some k) messages = take k messages

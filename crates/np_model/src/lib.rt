@@ -9,5 +9,5 @@ mod script;
 pub use np_message::{Depth, Message, Payload, WireError, WireKind};
 pub use page::{Outstanding, PeerState, Phase, Stage};
 pub use plugin::PluginStage;
-pub use refusal::{Refusal, Rule};
+pub use refusal::{BYTE_LIMIT, Refusal, Rule, TOO_MANY_BYTES};
 pub use script::{Command, Commands, Page, Plugin};

@@ -28,6 +28,17 @@ pub struct Refusal {
     pub second: u64,
 }
 
+/// The most bytes that are read of the other program, or of a file that is shown.
+pub const BYTE_LIMIT: u64 = 1 << 40;
+
+/// How the bytes after so many are refused.
+pub const TOO_MANY_BYTES: Refusal = Refusal {
+    at: BYTE_LIMIT,
+    rule: Rule::Bytes,
+    first: BYTE_LIMIT,
+    second: 0,
+};
+
 impl Refusal {
     /// How an end refuses the bytes that have this fault.
     pub fn of_fault(error: WireError) -> Refusal

@@ -11,13 +11,13 @@ use Rattle.np_ports.specs.Peer.{Known}
 use Rattle.np_ports.specs.Files.{Contents}
 use Rattle.np_model.specs.Alone.{plugin_role, WaitsAt, EndsAt, RefusesAt}
 use Rattle.np_model.proofs.Paces.{plugin-listening, plugin-ended}
-use Rattle.np_prefix.specs.PluginPrefix.{PluginWaitsLaw, PluginEndsLaw, PluginNeverRefusesLaw, PageFewBytesLaw}
-use Rattle.np_served.specs.Laws.{ServedPagesAreWellFormed}
-use Rattle.np_ending.specs.declared.ending.Ending.{Ending}
-use Rattle.np_ending.specs.declared.ending.Ending.TheVariants as endings
+use Rattle.np_model_wire_laws.specs.PluginPrefix.{PluginWaitsLaw, PluginEndsLaw, PluginNeverRefusesLaw, PageFewBytesLaw}
+use Rattle.np_model_scripts.specs.Laws.{ServedPagesAreWellFormed}
+use Rattle.np_end_stops.specs.declared.ending.Ending.{Ending}
+use Rattle.np_end_stops.specs.declared.ending.Ending.TheVariants as endings
 use Rattle.np_exchange.specs.Session.{ReadsWell, Exchanged, Completed}
 use Rattle.np_plug.specs.Outcomes.{PeerEnded, PipeFailed, PeerRefused, OutcomeOf}
-use Rattle.np_ending.specs.Status.{status_of, IsRunStatus}
+use Rattle.np_end_stops.specs.Status.{status_of, IsRunStatus}
 use Rattle.np_plug.specs.Plug.{script_word, OfScript, RunsPlugin, RunsWords}
 use Rattle.np_plug.specs.Main.{ReadFollows, FollowsExchange, PluginDone, PluginLeft, PluginBroken, PluginRefused, FollowsScript, FollowsWords}
 

@@ -7,16 +7,16 @@ use Rattle.np_message.specs.Encoding.{encodings}
 use Rattle.np_model.specs.PluginRun.{IsPageText}
 use Rattle.np_ports.specs.Peer.{Known}
 use Rattle.np_ports.specs.Files.{Contents}
-use Rattle.np_served.specs.Laws.{ServedPagesAreWellFormed}
+use Rattle.np_model_scripts.specs.Laws.{ServedPagesAreWellFormed}
 use Rattle.np_model.specs.Alone.{plugin_role, ComesTo}
-use Rattle.np_prefix.specs.PluginPrefix.{PluginWaitsLaw, PluginEndsLaw, PluginBeginsLaw, PluginComesToRestLaw, PluginNeverRefusesLaw, PageFewBytesLaw}
-use Rattle.np_ending.specs.declared.ending.Ending.{Ending}
-use Rattle.np_ending.specs.declared.ending.Ending.TheVariants as endings
+use Rattle.np_model_wire_laws.specs.PluginPrefix.{PluginWaitsLaw, PluginEndsLaw, PluginBeginsLaw, PluginComesToRestLaw, PluginNeverRefusesLaw, PageFewBytesLaw}
+use Rattle.np_end_stops.specs.declared.ending.Ending.{Ending}
+use Rattle.np_end_stops.specs.declared.ending.Ending.TheVariants as endings
 use Rattle.np_exchange.specs.Session.{Exchanged, Interrupted}
 use Rattle.np_plug.specs.Outcomes.{OutcomeOf, CutShort}
 use Rattle.np_plug.specs.Plug.{script_word, OfScript, RunCut, CutWords}
 use Rattle.np_plug.specs.Main.{PluginDone, PluginLeft, PluginBroken, PluginInterrupted, PluginCut, ForEachPage}
-use Rattle.np_ending.proofs.Parts.{begins-then, messages-begin}
+use Rattle.np_end_stops.proofs.Parts.{begins-then, messages-begin}
 use Rattle.np_plug.proofs.Follows.{exchange-follows, same-given, done-follows, left-follows, broken-follows, never-refused}
 
 -- the laws that are used

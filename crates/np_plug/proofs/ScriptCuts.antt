@@ -4,10 +4,10 @@ use Rattle.np_model.specs.declared.script.Plugin.{Plugin}
 use Rattle.np_model.specs.Journal.{end_line}
 use Rattle.np_ports.specs.Peer.{Known}
 use Rattle.np_ports.specs.Files.{Contents}
-use Rattle.np_served.specs.Served.{SaysPlugin}
-use Rattle.np_ending.specs.Causes.{AddsPart}
-use Rattle.np_ending.specs.ScriptLines.{ScriptRefusal, refusal_line}
-use Rattle.np_ending.proofs.EndLines.{end_line_is_some}
+use Rattle.np_model_scripts.specs.Served.{SaysPlugin}
+use Rattle.np_end_stops.specs.Causes.{AddsPart}
+use Rattle.np_end_lines.specs.ScriptLines.{ScriptRefusal, refusal_line}
+use Rattle.np_end_lines.proofs.EndLines.{end_line_is_some}
 use Rattle.np_exchange.specs.Session.{Told}
 use Rattle.np_plug.specs.Plug.{IsRefusedPlugin, IsDueEarly, RunCut}
 use Rattle.np_plug.proofs.Scripts.{WasRead, says-plugin, refused-file}

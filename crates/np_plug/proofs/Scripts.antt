@@ -1,17 +1,17 @@
 -- From the bytes of a file to its plug-in.
 use Rattle.std.proofs.Common.{◌≡◌, ℕ, List, take, ◌⊎◌, inl, inr, Result, Ok, Err, Option, Some, sym, subst, ◌∙◌, arith}
 use Rattle.np_values.specs.declared.name.Side.TheVariants as sides
-use Rattle.np_grammar.specs.declared.refusal.ScriptError.{ScriptError}
-use Rattle.np_grammar.specs.Refusals.{FirstError}
+use Rattle.np_script_grammar.specs.declared.refusal.ScriptError.{ScriptError}
+use Rattle.np_script_grammar.specs.Refusals.{FirstError}
 use Rattle.np_model.specs.declared.script.Plugin.{Plugin}
 use Rattle.np_ports.specs.Peer.{Known}
 use Rattle.np_ports.specs.Files.{Contents}
-use Rattle.np_served.specs.declared.serve.Unserved.{Unserved}
-use Rattle.np_served.specs.declared.serve.Unserved.TheVariants as unserved
-use Rattle.np_served.specs.Served.{SaysPlugin, IsUnbuiltPlugin}
-use Rattle.np_ending.specs.ScriptLines.{ScriptRefusal, OfError, Unbuilt}
-use Rattle.np_ending.proofs.Fronts.{of-front, to-front, error-of-front, error-to-front}
-use Rattle.np_ending.specs.Status.{IsRunStatus}
+use Rattle.np_model_scripts.specs.declared.serve.Unserved.{Unserved}
+use Rattle.np_model_scripts.specs.declared.serve.Unserved.TheVariants as unserved
+use Rattle.np_model_scripts.specs.Served.{SaysPlugin, IsUnbuiltPlugin}
+use Rattle.np_end_lines.specs.ScriptLines.{ScriptRefusal, OfError, Unbuilt}
+use Rattle.np_end_lines.proofs.Fronts.{of-front, to-front, error-of-front, error-to-front}
+use Rattle.np_end_stops.specs.Status.{IsRunStatus}
 use Rattle.np_exchange.specs.Closing.{EndsWith}
 use Rattle.np_plug.specs.Outcomes.{OutcomeOf}
 use Rattle.np_plug.specs.Plug.{RunsPlugin, IsRefusedPlugin, OnlyRefused}

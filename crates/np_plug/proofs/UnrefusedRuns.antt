@@ -5,10 +5,10 @@ use Rattle.np_ports.specs.Peer.{Known}
 use Rattle.np_ports.specs.Files.{Contents}
 use Rattle.np_model.specs.PluginPlan.{PluginControl}
 use Rattle.np_model.specs.Alone.{plugin_role, RefusesNothing}
-use Rattle.np_prefix.specs.Prefix.{RestsUnrefusedLaw}
-use Rattle.np_ending.specs.declared.ending.Ending.{Ending}
-use Rattle.np_ending.specs.declared.ending.Ending.TheVariants as endings
-use Rattle.np_ending.specs.Status.{status_of, IsRunStatus}
+use Rattle.np_model_wire_laws.specs.Prefix.{RestsUnrefusedLaw}
+use Rattle.np_end_stops.specs.declared.ending.Ending.{Ending}
+use Rattle.np_end_stops.specs.declared.ending.Ending.TheVariants as endings
+use Rattle.np_end_stops.specs.Status.{status_of, IsRunStatus}
 use Rattle.np_exchange.specs.Closing.{IsUnrefusedStatus}
 use Rattle.np_exchange.proofs.Sessions.{never-seven, unrefused-run}
 use Rattle.np_plug.specs.Outcomes.{PipeFailed, OutcomeOf}

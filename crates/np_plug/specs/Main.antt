@@ -11,10 +11,10 @@ use Rattle.np_model.specs.PluginRun.{PluginRestsIn, IsListening, IsPageText}
 use Rattle.np_model.specs.Journal.{end_line}
 use Rattle.np_ports.specs.Peer.{Known}
 use Rattle.np_ports.specs.Files.{Contents}
-use Rattle.np_served.specs.Served.{SaysPage, SaysPlugin}
-use Rattle.np_prefix.specs.Prefix.{IsWhole}
+use Rattle.np_model_scripts.specs.Served.{SaysPage, SaysPlugin}
+use Rattle.np_model_wire_laws.specs.Prefix.{IsWhole}
 use Rattle.np_plug.specs.Plug.{script_word, OfScript}
-use Rattle.np_ending.specs.Causes.{BeginsWith}
+use Rattle.np_end_stops.specs.Causes.{BeginsWith}
 
 -- Before this read the peer had taken all that the plug-in sends in the run that only the whole messages given by then reach.
 pub record ReadFollows (page : Page) (plugin : Plugin) (old : Known) (given taken : List ℕ) (r : ℕ × ℕ) : Type 0 where

@@ -3,18 +3,18 @@ use Rattle.std.specs.Prelude.{◌≡◌, ℕ, ◌^◌, ◌<◌, List, [], ◌∷
 use Rattle.std.specs.Global.{Global}
 use Rattle.np_model.specs.declared.script.Plugin.{Plugin}
 use Rattle.np_values.specs.declared.name.Side.TheVariants as sides
-use Rattle.np_grammar.specs.Refusals.{FirstError}
+use Rattle.np_script_grammar.specs.Refusals.{FirstError}
 use Rattle.np_model.specs.Journal.{end_line}
 use Rattle.np_ports.specs.Peer.{Known}
 use Rattle.np_ports.specs.Files.{Contents}
 use Rattle.np_ports.specs.declared.file_call.FileCall.{FileCall}
 use Rattle.np_ports.specs.declared.file_call.FileCall.TheVariants.{Read}
 use Rattle.np_model.specs.Alone.{plugin_role, RefusesNothing}
-use Rattle.np_ending.specs.declared.ending.Ending.{Ending}
-use Rattle.np_ending.specs.Causes.{Adds, BeginsWith}
-use Rattle.np_ending.specs.Status.{status_of, IsRunStatus}
-use Rattle.np_ending.specs.ScriptLines.{ScriptRefusal, OfError, Unbuilt, refusal_line, IsEarlyLine}
-use Rattle.np_served.specs.Served.{SaysPlugin, IsUnbuiltPlugin}
+use Rattle.np_end_stops.specs.declared.ending.Ending.{Ending}
+use Rattle.np_end_stops.specs.Causes.{Adds, BeginsWith}
+use Rattle.np_end_stops.specs.Status.{status_of, IsRunStatus, BAD_SCRIPT, FILE_FAILED, NO_MEMORY, OUTPUT_FAILED, PEER_LOST, USAGE}
+use Rattle.np_end_lines.specs.ScriptLines.{ScriptRefusal, OfError, Unbuilt, refusal_line, IsEarlyLine}
+use Rattle.np_model_scripts.specs.Served.{SaysPlugin, IsUnbuiltPlugin}
 use Rattle.np_plug.specs.Outcomes.{OutcomeOf}
 
 abbrev pub texts : List (String Global) → List (List ℕ)
@@ -39,16 +39,16 @@ abbrev pub RunsUnrefused : List ℕ → Option Contents → Option Known → Opt
 RunsUnrefused name files known0 known1 taken0 status =
     (f : Contents) (old : Known) (first : List ℕ) → files ≡ Some f → known0 ≡ Some old → taken0 ≡ Some first →
     (plugin : Plugin) × (new : Known) × (got : List ℕ) × SaysPlugin (f name) plugin × (known1 ≡ Some new) × (new.given ≡ old.given ++ got)
-    × RefusesNothing (plugin_role plugin) got × (status ≡ 5 → length got < 2 ^ 40)
+    × RefusesNothing (plugin_role plugin) got × (status ≡ PEER_LOST → length got < 2 ^ 40)
 
--- why bytes aren't served as a plug-in: their first error, or a line that isn't served yet
+-- why bytes aren't served as a plug-in: their first error, or a line that isn't supported yet
 abbrev pub IsRefusedPlugin : List ℕ → ScriptRefusal → Type 0
 IsRefusedPlugin bytes (OfError e) = FirstError sides.Plug bytes e
 IsRefusedPlugin bytes Unbuilt = IsUnbuiltPlugin bytes
 
 -- At 3 and 4 the peer was not called, and one line alone was printed: at 4 the end line, at 3 that of a script that isn't served.
 abbrev pub StopsEarly : Option Known → Option Known → Option (List ℕ) → Option (List ℕ) → ℕ → Type 0
-StopsEarly known0 known1 taken0 taken1 status = (status ≡ 3) ⊎ (status ≡ 4) → (known1 ≡ known0) × ((line : List ℕ) × IsEarlyLine status line × Adds taken0 taken1 line)
+StopsEarly known0 known1 taken0 taken1 status = (status ≡ BAD_SCRIPT) ⊎ (status ≡ FILE_FAILED) → (known1 ≡ known0) × ((line : List ℕ) × IsEarlyLine status line × Adds taken0 taken1 line)
 
 -- This line was due before the plug-in began: that of a file that isn't served, or the end line of 4 where the file failed.
 abbrev pub IsDueEarly : List ℕ → Type 0 → List ℕ → Type 0
@@ -71,13 +71,13 @@ RunCut outcome name file_failed files known0 known1 taken0 taken1 =
     (new : Known) × (sink : List ℕ) × (known1 ≡ Some new) × (taken1 ≡ Some sink)
     × (CutEarly (f name) file_failed old first new sink ⊎ ((plugin : Plugin) × SaysPlugin (f name) plugin × outcome plugin old first new sink))
 
--- where the files tell, the named one isn't served, and the line for that alone was printed
+-- for files that record their contents, the named one isn't served, and the line for that alone was printed
 abbrev pub RefusesPlugin : List ℕ → Option Contents → Option (List ℕ) → Option (List ℕ) → Type 0
 RefusesPlugin name files taken0 taken1 = (f : Contents) → files ≡ Some f → (r : ScriptRefusal) × IsRefusedPlugin (f name) r × Adds taken0 taken1 (refusal_line r)
 
 -- a file that isn't served gives 3, unless it can't be read
 abbrev pub OnlyRefused : List ℕ → Option Contents → ℕ → Type 0
-OnlyRefused name files status = (f : Contents) → files ≡ Some f → (r : ScriptRefusal) → IsRefusedPlugin (f name) r → (status ≡ 3) ⊎ (status ≡ 4)
+OnlyRefused name files status = (f : Contents) → files ≡ Some f → (r : ScriptRefusal) → IsRefusedPlugin (f name) r → (status ≡ BAD_SCRIPT) ⊎ (status ≡ FILE_FAILED)
 
 -- the files stay as they were
 abbrev pub KeepsFiles : Option Contents → Option Contents → Type 0
@@ -121,10 +121,10 @@ OnlyRefusedScript words files status = OfScript (script_word words) (λ name. On
 abbrev pub NotesWordsOnly : List (List ℕ) → Option (List (List ℕ × FileCall)) → Option (List (List ℕ × FileCall)) → Type 0
 NotesWordsOnly words old new = OfScript (script_word words) (λ name. NotesScriptOnly name old new) ((l : List (List ℕ × FileCall)) → old ≡ Some l → new ≡ Some l)
 
--- want of memory, or the output failed
+-- out of memory, or the output failed
 abbrev pub IsCutShort : ℕ → Type 0
-IsCutShort status = (status ≡ 8) ⊎ (status ≡ 10)
+IsCutShort status = (status ≡ NO_MEMORY) ⊎ (status ≡ OUTPUT_FAILED)
 
 -- the other statuses
 abbrev pub IsEndStatus : ℕ → Type 0
-IsEndStatus status = IsRunStatus status ⊎ ((status ≡ 2) ⊎ ((status ≡ 3) ⊎ (status ≡ 4)))
+IsEndStatus status = IsRunStatus status ⊎ ((status ≡ USAGE) ⊎ ((status ≡ BAD_SCRIPT) ⊎ (status ≡ FILE_FAILED)))

@@ -2,21 +2,22 @@
 
 ghost use Rattle.std.specs.Prelude.{◌≡◌, ◌<◌, ◌⊎◌, ◌↔◌, ◌≢◌, length, map, string_bytes, IfOk, OnOk, OnErr, Some, None, true};
 ghost use Rattle.np_ports.specs.Causes.{Rose};
-ghost use Rattle.np_ending.specs.Causes.{SinkCause};
+ghost use Rattle.np_end_stops.specs.Causes.{SinkCause, counted_output};
 ghost use Rattle.np_plug.specs.Plug.{texts, script_word, RunsPlugin, RunCut, CutWords, RunsWords, UnrefusedWords, StopsEarly, RefusesPlugin, RefusesScript, OnlyRefused, OnlyRefusedScript, KeepsFiles, NotesScriptOnly, NotesWordsOnly, IsIdle, IsCutShort, IsEndStatus};
 ghost use Rattle.np_exchange.specs.Closing.{IsUnrefusedStatus};
 ghost use Rattle.np_plug.specs.Outcomes.{CutShort};
 ghost use Rattle.np_plug.specs.Main.{FollowsWords, ForEachPage, PluginDone, PluginLeft, PluginBroken, PluginRefused, PluginCut};
+ghost use Rattle.np_end_stops.specs.Status.{BAD_SCRIPT, DONE, FILE_FAILED, OUTPUT_FAILED, PEER_LOST, PIPE_FAILED, REFUSED, USAGE};
 
 use crate::session::session;
-use np_ending::{Stop, finish, finish_script, finish_unbuilt};
-use np_ports::{Files, Peer, PortError, Sink};
-use np_prefix::{
+use np_end_lines::{finish, finish_script, finish_unbuilt};
+use np_end_stops::{Stop, exit_status};
+use np_model_scripts::{Unserved, serve_plugin, served_pages_are_well_formed};
+use np_model_wire_laws::{
     page_few_bytes_law, plugin_begins_law, plugin_comes_to_rest_law, plugin_ends_law,
     plugin_never_refuses_law, plugin_waits_law, rests_unrefused_law,
 };
-use np_served::{Unserved, serve_plugin, served_pages_are_well_formed};
-use np_transfer::read_script;
+use np_ports::{Files, Peer, PortError, Sink, read_script};
 use std::alloc::Global;
 
 /// The plug-in of the named file runs over the peer.
@@ -30,22 +31,27 @@ fn run<P: Peer, F: Files, O: Sink>(
     ensures runs { IfOk result (λ status. RunsPlugin name.now (F.contents files.old) (P.known peer.old) (P.known peer.new) (O.taken notes.old) (O.taken notes.new) status) }
     ensures cut { OnErr result (RunCut (CutShort (Rose (P.pipe_faults peer.old) (P.pipe_faults peer.new)) (P.has_ended peer.new ≡ true)) name.now (Rose (F.faults files.old) (F.faults files.new)) (F.contents files.old) (P.known peer.old) (P.known peer.new) (O.taken notes.old) (O.taken notes.new)) }
     ensures early { IfOk result (λ status. StopsEarly (P.known peer.old) (P.known peer.new) (O.taken notes.old) (O.taken notes.new) status) }
-    ensures script { IfOk result (λ status. status ≡ 3 → RefusesPlugin name.now (F.contents files.old) (O.taken notes.old) (O.taken notes.new)) }
+    ensures script { IfOk result (λ status. status ≡ BAD_SCRIPT → RefusesPlugin name.now (F.contents files.old) (O.taken notes.old) (O.taken notes.new)) }
     ensures script_only { IfOk result (λ status. OnlyRefused name.now (F.contents files.old) status) }
     ensures listed { IfOk result (λ status. IsEndStatus status) }
-    ensures usage { IfOk result (λ status. status ≢ 2) }
-    ensures output { IfOk result (λ status. status ≢ 10) }
-    ensures file { IfOk result (λ status. status ≡ 4 → Rose (F.faults files.old) (F.faults files.new)) }
-    ensures pipe { IfOk result (λ status. status ≡ 6 → Rose (P.pipe_faults peer.old) (P.pipe_faults peer.new)) }
-    ensures ended { IfOk result (λ status. status ≡ 5 → P.has_ended peer.new ≡ true) }
+    ensures usage { IfOk result (λ status. status ≢ USAGE) }
+    ensures output { IfOk result (λ status. status ≢ OUTPUT_FAILED) }
+    ensures file { IfOk result (λ status. status ≡ FILE_FAILED → Rose (F.faults files.old) (F.faults files.new)) }
+    ensures pipe { IfOk result (λ status. status ≡ PIPE_FAILED → Rose (P.pipe_faults peer.old) (P.pipe_faults peer.new)) }
+    ensures ended { IfOk result (λ status. status ≡ PEER_LOST → P.has_ended peer.new ≡ true) }
     ensures start_faults { P.start_faults peer.new ≡ P.start_faults peer.old }
+    ensures file_only { IfOk result (λ status. (status ≡ FILE_FAILED) ⊎ (F.faults files.new ≡ F.faults files.old)) }
+    ensures pipe_only { IfOk result (λ status. (status ≡ PIPE_FAILED) ⊎ (P.pipe_faults peer.new ≡ P.pipe_faults peer.old)) }
+    ensures ended_only { IfOk result (λ status. (status ≡ PEER_LOST) ⊎ (P.has_ended peer.new ≡ P.has_ended peer.old)) }
+    ensures early_peer { IfOk result (λ status. (status ≡ BAD_SCRIPT) ⊎ (status ≡ FILE_FAILED) → peer.new ≡ peer.old) }
     ensures sink { SinkCause (O.faults notes.old) (O.faults notes.new) result }
+    ensures sink_count { O.faults notes.new ≡ counted_output (O.faults notes.old) result }
     ensures files { KeepsFiles (F.contents files.old) (F.contents files.new) }
     ensures failed_calls { NotesScriptOnly name.now (F.failed_calls files.old) (F.failed_calls files.new) }
 {
     let bytes = match read_script(alloc, files, name) {
         Ok(bytes) => bytes,
-        Err(PortError::Failed) => return finish(alloc, notes, 4),
+        Err(PortError::Failed) => return finish(alloc, notes, exit_status::FILE_FAILED),
         Err(PortError::NoMemory) => return Err(Stop::NoMemory),
     };
     let plugin = match serve_plugin(alloc, &bytes) {
@@ -60,7 +66,7 @@ fn run<P: Peer, F: Files, O: Sink>(
 
 /// Runs the plug-in end on the words of its command line, and answers its status.
 ///
-/// `words` are those behind the program's name: `SCRIPT NOTES`, any two words as they are. The plug-in of
+/// `words` are those after the program's name: `SCRIPT NOTES`, any two words as they are. The plug-in of
 /// the file SCRIPT serves the page at the other end of `peer`, which is never started; its lines and its
 /// end line go to `notes`, the file NOTES. This project's own.
 pub fn plug_main<P: Peer, F: Files, O: Sink>(
@@ -70,7 +76,7 @@ pub fn plug_main<P: Peer, F: Files, O: Sink>(
     files: &mut F,
     notes: &mut O,
 ) -> u8
-    // What a run did, where its environment tells: status 0, 5, 6 or 7.
+    // What a run did, for environments that record their traffic: status 0, 5, 6 or 7.
     ensures runs { RunsWords (texts words.now) (F.contents files.old) (P.known peer.old) (P.known peer.new) (O.taken notes.old) (O.taken notes.new) result }
 
     // At 0, 5 and 6 the plug-in refuses nothing of what the peer gave, whatever bytes these are. So where it
@@ -79,10 +85,10 @@ pub fn plug_main<P: Peer, F: Files, O: Sink>(
 
     // The main theorem: for each page script whose wire text the given bytes begin, the run of page and
     // plug-in in one process that only the whole messages of these bytes reach.
-    ensures follows_done { result ≡ 0 → FollowsWords PluginDone (texts words.now) (F.contents files.old) (P.known peer.old) (P.known peer.new) (O.taken notes.old) (O.taken notes.new) }
-    ensures follows_left { result ≡ 5 → FollowsWords PluginLeft (texts words.now) (F.contents files.old) (P.known peer.old) (P.known peer.new) (O.taken notes.old) (O.taken notes.new) }
-    ensures follows_broken { result ≡ 6 → FollowsWords PluginBroken (texts words.now) (F.contents files.old) (P.known peer.old) (P.known peer.new) (O.taken notes.old) (O.taken notes.new) }
-    ensures never_refused { result ≡ 7 → FollowsWords PluginRefused (texts words.now) (F.contents files.old) (P.known peer.old) (P.known peer.new) (O.taken notes.old) (O.taken notes.new) }
+    ensures follows_done { result ≡ DONE → FollowsWords PluginDone (texts words.now) (F.contents files.old) (P.known peer.old) (P.known peer.new) (O.taken notes.old) (O.taken notes.new) }
+    ensures follows_left { result ≡ PEER_LOST → FollowsWords PluginLeft (texts words.now) (F.contents files.old) (P.known peer.old) (P.known peer.new) (O.taken notes.old) (O.taken notes.new) }
+    ensures follows_broken { result ≡ PIPE_FAILED → FollowsWords PluginBroken (texts words.now) (F.contents files.old) (P.known peer.old) (P.known peer.new) (O.taken notes.old) (O.taken notes.new) }
+    ensures never_refused { result ≡ REFUSED → FollowsWords PluginRefused (texts words.now) (F.contents files.old) (P.known peer.old) (P.known peer.new) (O.taken notes.old) (O.taken notes.new) }
     ensures follows_cut { IsCutShort result → CutWords (ForEachPage PluginCut) (texts words.now) (Rose (F.faults files.old) (F.faults files.new)) (F.contents files.old) (P.known peer.old) (P.known peer.new) (O.taken notes.old) (O.taken notes.new) }
 
     // At 8 and 10: what the sink and the peer took by then.
@@ -90,17 +96,28 @@ pub fn plug_main<P: Peer, F: Files, O: Sink>(
 
     // What comes before a plug-in runs.
     ensures early { StopsEarly (P.known peer.old) (P.known peer.new) (O.taken notes.old) (O.taken notes.new) result }
-    ensures usage { result ≡ 2 ↔ (script_word (texts words.now) ≡ None) }
-    ensures idle { result ≡ 2 → IsIdle (F.contents files.old) (F.contents files.new) (F.failed_calls files.old) (F.failed_calls files.new) (P.known peer.old) (P.known peer.new) (O.taken notes.old) (O.taken notes.new) }
+    ensures usage { result ≡ USAGE ↔ (script_word (texts words.now) ≡ None) }
+    ensures idle { result ≡ USAGE → IsIdle (F.contents files.old) (F.contents files.new) (F.failed_calls files.old) (F.failed_calls files.new) (P.known peer.old) (P.known peer.new) (O.taken notes.old) (O.taken notes.new) }
 
     // The statuses, and the cause of each.
     ensures listed { IsEndStatus result ⊎ IsCutShort result }
-    ensures script { result ≡ 3 → RefusesScript (texts words.now) (F.contents files.old) (O.taken notes.old) (O.taken notes.new) }
+    ensures script { result ≡ BAD_SCRIPT → RefusesScript (texts words.now) (F.contents files.old) (O.taken notes.old) (O.taken notes.new) }
     ensures script_only { IsCutShort result ⊎ OnlyRefusedScript (texts words.now) (F.contents files.old) result }
-    ensures file { result ≡ 4 → Rose (F.faults files.old) (F.faults files.new) }
-    ensures ended { result ≡ 5 → P.has_ended peer.new ≡ true }
-    ensures pipe { result ≡ 6 → Rose (P.pipe_faults peer.old) (P.pipe_faults peer.new) }
-    ensures output { result ≡ 10 → Rose (O.faults notes.old) (O.faults notes.new) }
+    ensures file { result ≡ FILE_FAILED → Rose (F.faults files.old) (F.faults files.new) }
+    ensures ended { result ≡ PEER_LOST → P.has_ended peer.new ≡ true }
+    ensures pipe { result ≡ PIPE_FAILED → Rose (P.pipe_faults peer.old) (P.pipe_faults peer.new) }
+    ensures output { result ≡ OUTPUT_FAILED → Rose (O.faults notes.old) (O.faults notes.new) }
+
+    // And the other way round: no fault is passed over. A count that rose, and an end that a read answered, give their status,
+    // unless the run was cut short; the notes' gives 10 in any case.
+    ensures file_only { (result ≡ FILE_FAILED) ⊎ (IsCutShort result ⊎ (F.faults files.new ≡ F.faults files.old)) }
+    ensures ended_only { (result ≡ PEER_LOST) ⊎ (IsCutShort result ⊎ (P.has_ended peer.new ≡ P.has_ended peer.old)) }
+    ensures pipe_only { (result ≡ PIPE_FAILED) ⊎ (IsCutShort result ⊎ (P.pipe_faults peer.new ≡ P.pipe_faults peer.old)) }
+    ensures output_only { (result ≡ OUTPUT_FAILED) ⊎ (O.faults notes.new ≡ O.faults notes.old) }
+
+    // At 2 nothing was called at all; at 3 and 4 the peer wasn't.
+    ensures unchanged { result ≡ USAGE → (peer.new ≡ peer.old) × ((files.new ≡ files.old) × (notes.new ≡ notes.old)) }
+    ensures early_peer { (result ≡ BAD_SCRIPT) ⊎ (result ≡ FILE_FAILED) → peer.new ≡ peer.old }
 
     // What stays, at every status: the peer isn't started, and the files stay as they were.
     ensures start_faults { P.start_faults peer.new ≡ P.start_faults peer.old }
@@ -116,11 +133,11 @@ pub fn plug_main<P: Peer, F: Files, O: Sink>(
     page_few_bytes_law();
     served_pages_are_well_formed();
     let [script, _] = words else {
-        return 2;
+        return exit_status::USAGE;
     };
     match run(alloc, script.as_str(), peer, files, notes) {
         Ok(status) => status,
-        Err(Stop::OutputFailed) => 10,
-        Err(Stop::NoMemory) => 8,
+        Err(Stop::OutputFailed) => exit_status::OUTPUT_FAILED,
+        Err(Stop::NoMemory) => exit_status::NO_MEMORY,
     }
 }

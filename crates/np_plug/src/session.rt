@@ -1,15 +1,17 @@
 //! A plug-in over a peer and a sink, from its start to the status of the run.
 
-ghost use Rattle.std.specs.Prelude.{◌≡◌, OnOk, OnErr, IfOk, true};
+ghost use Rattle.std.specs.Prelude.{◌≡◌, OnOk, OnErr, IfOk, true, ◌⊎◌};
 ghost use Rattle.np_ports.specs.Causes.{Rose};
-ghost use Rattle.np_ending.specs.Causes.{Adds, AddsPart, SinkCause};
-ghost use Rattle.np_ending.specs.PeerCauses.{SessionCause, SessionEnded};
-ghost use Rattle.np_ending.specs.Status.{ending_line, status_of, IsRunStatus};
+ghost use Rattle.np_end_stops.specs.Causes.{Adds, AddsPart, SinkCause, counted_output};
+ghost use Rattle.np_end_stops.specs.PeerCauses.{SessionCause, SessionEnded};
+ghost use Rattle.np_end_stops.specs.Status.{status_of, IsRunStatus, PIPE_FAILED, PEER_LOST};
+ghost use Rattle.np_end_lines.specs.Endings.{ending_line};
 ghost use Rattle.np_exchange.specs.Session.{Told};
 ghost use Rattle.np_exchange.specs.Closing.{EndsWith};
 ghost use Rattle.np_plug.specs.Outcomes.{OutcomeOf, CutShort};
 
-use np_ending::{Ending, Stop, finish, finish_refused};
+use np_end_lines::{finish, finish_refused};
+use np_end_stops::{Ending, Stop, exit_status};
 use np_exchange::talk;
 use np_plug_end::{PlugEnd, Plugin};
 use np_ports::{Peer, Sink};
@@ -21,11 +23,12 @@ fn close<O: Sink>(alloc: Global, ending: Ending, notes: &mut O) -> Result<u8, St
     ensures status { IfOk result (λ status. status ≡ status_of ending) }
     ensures part { OnErr result (AddsPart (O.taken notes.old) (O.taken notes.new) (ending_line ending)) }
     ensures sink { SinkCause (O.faults notes.old) (O.faults notes.new) result }
+    ensures sink_count { O.faults notes.new ≡ counted_output (O.faults notes.old) result }
 {
     match ending {
-        Ending::Done => finish(alloc, notes, 0),
-        Ending::Ended => finish(alloc, notes, 5),
-        Ending::Unsent | Ending::Failed => finish(alloc, notes, 6),
+        Ending::Done => finish(alloc, notes, exit_status::DONE),
+        Ending::Ended => finish(alloc, notes, exit_status::PEER_LOST),
+        Ending::Unsent | Ending::Failed => finish(alloc, notes, exit_status::PIPE_FAILED),
         Ending::Refused(refusal) => finish_refused(alloc, notes, refusal),
     }
 }
@@ -42,8 +45,11 @@ pub fn session<P: Peer, O: Sink>(
     ensures status { IfOk result (λ status. IsRunStatus status) }
     ensures peer { SessionCause (P.pipe_faults peer.old) (P.pipe_faults peer.new) result }
     ensures ended { SessionEnded (P.has_ended peer.new) result }
+    ensures pipe_only { IfOk result (λ status. (status ≡ PIPE_FAILED) ⊎ (P.pipe_faults peer.new ≡ P.pipe_faults peer.old)) }
+    ensures ended_only { IfOk result (λ status. (status ≡ PEER_LOST) ⊎ (P.has_ended peer.new ≡ P.has_ended peer.old)) }
     ensures start_faults { P.start_faults peer.new ≡ P.start_faults peer.old }
     ensures sink { SinkCause (O.faults notes.old) (O.faults notes.new) result }
+    ensures sink_count { O.faults notes.new ≡ counted_output (O.faults notes.old) result }
 {
     let mut end = PlugEnd::new(alloc, plugin)?;
     let ending = talk(&mut end, peer, notes)?;

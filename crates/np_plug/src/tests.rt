@@ -17,12 +17,6 @@ const NO_DESTROY: [u8; 43] = [
     0, 0, 0, 4, 5, 1, 0, 0, 0, 0, 0, 4, 0xc, 1, 0, 0,
 ];
 
-/// Hello of version 0.27 and Shutdown.
-const EMPTY_PAGE: [u8; 19] = [0, 0, 0, 7, 1, 1, 0, 0, 1, 0, 0x1b, 0, 0, 0, 4, 0xc, 1, 0, 0];
-
-/// Hello of version 1.0 and Shutdown.
-const NEWER_PAGE: [u8; 19] = [0, 0, 0, 7, 1, 1, 0, 0, 1, 1, 0, 0, 0, 0, 4, 0xc, 1, 0, 0];
-
 const REPLIES: [u8; 43] = [
     0, 0, 0, 5, 0x45, 1, 0, 0, 0, 0, 0, 0, 5, 0x45, 1, 0, 0, 0, 0, 0, 0, 4, 0x47, 1, 0, 0, 0, 0, 0,
     5, 0x45, 1, 0, 0, 0, 0, 0, 0, 4, 0x47, 1, 0, 0,
@@ -43,7 +37,7 @@ fn entries(alloc: Global, script: &str) -> Result<Vec<(String, Vec<u8>)>, Fail> 
     Ok(entries)
 }
 
-/// The status of a script over a peer that gives these bytes in pieces of so many, what is noted, and what
+/// The status of a script over a peer that gives these bytes in pieces of this many, what is noted, and what
 /// the peer took.
 fn outcome(
     alloc: Global,
@@ -124,111 +118,6 @@ fn whole_runs(rt: HostRuntime) -> Result<(), Fail> {
     Ok(())
 }
 
-#[test]
-fn versions(rt: HostRuntime) -> Result<(), Fail> {
-    let alloc = rt.alloc();
-    for (script, given, code) in [
-        (PLAIN, EMPTY_PAGE.as_slice(), 0),
-        (PLAIN, NEWER_PAGE.as_slice(), 8),
-        ("plugin 1 0\n", NEWER_PAGE.as_slice(), 0),
-        ("plugin 2 0\n", NEWER_PAGE.as_slice(), 0),
-    ] {
-        let (status, out, peer) = outcome(alloc, script, given, false)?;
-        assert_eq!(rt; status, 0);
-        assert_eq!(rt; out.bytes(), b"end 0\n".as_slice());
-        assert_eq!(rt;
-            peer.taken(),
-            [0, 0, 0, 5, 0x45, 1, 0, 0, code, 0, 0, 0, 4, 0x47, 1, 0, 0].as_slice()
-        );
-    }
-    Ok(())
-}
-
-/// Behind each number of bytes the peer took the replies to all whole messages; only Shutdown's ends the run.
-#[test]
-fn the_page_ends(rt: HostRuntime) -> Result<(), Fail> {
-    let alloc = rt.alloc();
-    let script = "plugin 0 27\nhandler new\nreturn 0\nend\n";
-    for (bytes, taken, notes) in [
-        (0, 0, "end 5\n"),
-        (10, 0, "end 5\n"),
-        (11, 9, "end 5\n"),
-        (26, 9, "end 5\n"),
-        (27, 18, "> inst:1 new\nend 5\n"),
-        (35, 26, "> inst:1 new\nend 5\n"),
-        (44, 35, "> inst:1 new\nend 5\n"),
-        (51, 35, "> inst:1 new\nend 5\n"),
-    ] {
-        let given = MESSAGES.get(..bytes).ok_or("too many")?;
-        let (status, out, peer) = outcome(alloc, script, given, false)?;
-        assert_eq!(rt; status, 5);
-        assert_eq!(rt; out.bytes(), notes.as_bytes());
-        assert_eq!(rt; peer.taken(), REPLIES.get(..taken).ok_or("too many")?);
-    }
-    Ok(())
-}
-
-/// A Turn that gives back a reference of instance 1.
-const RELEASING: &[u8] = &[0, 0, 0, 13, 5, 1, 0, 1, 1, 0, 0, 0, 7, 0, 0, 0, 1];
-
-#[test]
-fn the_page_is_refused(rt: HostRuntime) -> Result<(), Fail> {
-    let alloc = rt.alloc();
-    let hello = &MESSAGES[..11];
-    let new = &MESSAGES[11..27];
-    let destroy = &MESSAGES[35..44];
-    for (parts, line) in [
-        (
-            [[0, 0, 0, 4, 5, 1, 0, 0].as_slice(), &[], &[]],
-            "end 7 at 0 wrong-kind 5 0\n",
-        ),
-        ([hello, new, new], "end 7 at 27 wrong-kind 2 1\n"),
-        ([hello, hello, &[]], "end 7 at 11 wrong-kind 1 0\n"),
-        ([hello, destroy, &[]], "end 7 at 11 wrong-kind 3 1\n"),
-        (
-            [hello, [0, 0, 0, 4, 0x47, 1, 0, 0].as_slice(), &[]],
-            "end 7 at 11 wrong-kind 71 0\n",
-        ),
-        (
-            [hello, [0, 0, 0, 5, 0x45, 2, 0, 0, 0].as_slice(), &[]],
-            "end 7 at 11 unmatched 2 0\n",
-        ),
-        (
-            [hello, [0, 0, 0, 4, 5, 0x81, 0, 0].as_slice(), &[]],
-            "end 7 at 11 place 129 0\n",
-        ),
-        (
-            [hello, [0, 0, 0, 5, 4, 1, 0, 0, 1].as_slice(), &[]],
-            "end 7 at 11 wrong-kind 4 1\n",
-        ),
-        ([hello, new, RELEASING], "end 7 at 27 unknown 1 7\n"),
-        ([hello, RELEASING, &[]], "end 7 at 11 unknown 1 7\n"),
-        (
-            [hello, [0, 0, 0, 3].as_slice(), &[]],
-            "end 7 at 11 length 3 32768\n",
-        ),
-        (
-            [hello, [0, 0, 0, 4, 0x48, 1, 0, 0].as_slice(), &[]],
-            "end 7 at 15 item 11 4\n",
-        ),
-        (
-            [hello, [0, 0, 0, 5, 5, 1, 0, 0, 0].as_slice(), &[]],
-            "end 7 at 19 rest 11 5\n",
-        ),
-    ] {
-        let mut given = Vec::new(alloc);
-        for part in parts {
-            given.extend_from_slice(part)?;
-        }
-        for small in [true, false] {
-            let (status, out, _) = outcome(alloc, PLAIN, &given, small)?;
-            assert_eq!(rt; status, 7);
-            assert_eq!(rt; out.bytes(), line.as_bytes());
-        }
-    }
-    Ok(())
-}
-
 /// The status and notes where the calls of the peer, the files and the sink with these numbers fail.
 fn faulty(
     alloc: Global,
@@ -286,26 +175,6 @@ fn refused_command_lines(rt: HostRuntime) -> Result<(), Fail> {
         let words = words(alloc, texts)?;
         let status = plug_main(alloc, &words, &mut peer, &mut files, &mut notes);
         assert_eq!(rt; status, want);
-        assert_eq!(rt; notes.bytes(), noted.as_bytes());
-        assert_eq!(rt; peer.taken(), b"".as_slice());
-    }
-    Ok(())
-}
-
-/// A script that isn't served yet, one that is none in its second line, and one that has no line.
-#[test]
-fn scripts_that_are_not_served(rt: HostRuntime) -> Result<(), Fail> {
-    let alloc = rt.alloc();
-    for (script, noted) in [
-        ("plugin 0 27\nclass \"C\" 1\nendclass\n", "end 3 unbuilt\n"),
-        (
-            "plugin 0 27\nhandler old\nreturn 0\nend\n",
-            "end 3 line 2 form\n",
-        ),
-        ("# nothing\n", "end 3 line 2 end\n"),
-    ] {
-        let (status, notes, peer) = outcome(alloc, script, &MESSAGES, false)?;
-        assert_eq!(rt; status, 3);
         assert_eq!(rt; notes.bytes(), noted.as_bytes());
         assert_eq!(rt; peer.taken(), b"".as_slice());
     }

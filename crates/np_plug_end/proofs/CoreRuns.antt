@@ -10,7 +10,7 @@ use Rattle.np_model.specs.PluginPlan.{PluginControl, plugin_pace, plugin_meet, s
 use Rattle.np_model.specs.PluginRun.{IsListening}
 use Rattle.np_model.specs.Alone.{plugin_role}
 use Rattle.np_model.specs.Refused.{RefusedBy}
-use Rattle.np_laws.specs.Laws.{PluginMoreMessagesLaw}
+use Rattle.np_model_laws.specs.Laws.{PluginMoreMessagesLaw}
 use Rattle.np_endpoint.specs.End.{Keeps, HasPace, RestsAs}
 use Rattle.np_endpoint.specs.declared.halt.Halt.{Halt}
 use Rattle.np_endpoint.specs.declared.halt.Halt.TheVariants.{Waiting, Finished, Refused}

@@ -6,7 +6,7 @@ use Rattle.np_model.specs.declared.refusal.Refusal.{Refusal}
 use Rattle.np_message.specs.Encoding.{encoding, encodings}
 use Rattle.np_message.specs.Rules.{KeepsFormat, IsTyped}
 use Rattle.np_message.specs.Decoding.{Partial, Whole, front}
-use Rattle.np_decode.specs.Reading.{needs_memory}
+use Rattle.np_wire_decode.specs.Reading.{needs_memory}
 use Rattle.np_model.specs.Side.{Micro}
 use Rattle.np_model.specs.Run.{Accepts, Refuses}
 use Rattle.np_model.specs.PluginPlan.{PluginControl, serve_plan, plugin_meet}
@@ -70,7 +70,7 @@ pub record IsServed (e : Core) : Type 0 where
   pub there : front e.feed.consumed e.feed.left ≡ Whole message rest
   pub plan : plugin_meet e.plugin (control_of e) message ≡ Accepts (serve_plan e.plugin (control_of e) message)
 
--- Want of memory comes in place of no refusal: it comes where the message at the front is served, or begins as one with texts, values, lists or releases.
+-- Out of memory comes in place of no refusal: it comes where the message at the front is served, or begins as one with texts, values, lists or releases.
 abbrev pub WantsMemory : Core → Type 0
 WantsMemory e = (needs_memory (drop 4 e.feed.left) ≡ true) ⊎ IsServed e
 

@@ -11,9 +11,9 @@ use std::alloc::Global;
 use std::marker::Model;
 
 /// The plug-in end, as a machine from the host's bytes to the plug-in's. It reads and writes nothing
-/// itself: its owner gives it bytes by `take`, lets it `run`, and carries off what is in `outgoing`
+/// itself: its owner gives it bytes by `take`, lets it `run`, and writes out what is in `outgoing`
 /// and `journal`. Where memory ran out it has failed for good, and what it has made since its last
-/// call that went well is not to be carried off any more. (This project's own.)
+/// call that went well is not to be written out any more. (This project's own.)
 #[derive(Drop)]
 pub struct PlugEnd {
     core: Core,
@@ -60,7 +60,7 @@ impl PlugEnd {
         })
     }
 
-    /// What `run` answered last; `Waiting` before the first run. A run that wanted memory leaves it.
+    /// What `run` answered last; `Waiting` before the first run. A run that ran out of memory leaves it.
     pub fn state(&self) -> &PlugState
         ensures same { result.now ≡ self.now.state }
     {
@@ -82,7 +82,7 @@ impl PlugEnd {
     }
 
     /// Gives it further bytes of the host, in whatever chunks they come; they are copied. It takes at
-    /// most 2^40 bytes in all. After want of memory every later call of it and of `run` answers the
+    /// most 2^40 bytes in all. After out of memory every later call of it and of `run` answers the
     /// same.
     pub fn take(&mut self, bytes: &[u8]) -> Result<(), NoMemory>
         requires room { total_of self.old + length bytes.now ≤ 2 ^ 40 }
@@ -130,7 +130,7 @@ impl PlugEnd {
 
     /// Serves what has come whole, until it waits for a message that isn't whole yet, was shut down, or
     /// refuses a message. It is finished where the reply to Shutdown is in `outgoing`, or was cut off it;
-    /// what came behind Shutdown is left unread. After that, after a refusal and after want of memory every
+    /// what came after Shutdown is left unread. After that, after a refusal and once memory ran out every
     /// later run answers the same.
     pub fn run(&mut self) -> Result<PlugState, NoMemory>
         ensures keeps { OnOk result (Keeps plugin_role self.old self.new) }
@@ -140,7 +140,7 @@ impl PlugEnd {
         ensures err { OnErr result (self.new.failed ≡ true) }
         ensures state { OnErr result (self.new.state ≡ self.old.state) }
 
-        // Want of memory, a refusal and the end are answered again from then on, and nothing changes.
+        // Out of memory, a refusal and the end are answered again from then on, and nothing changes.
         ensures again { self.old.failed ≡ true → OnOk result ⊥ }
         ensures stays { self.old.failed ≡ true → self.new ≡ self.old }
         ensures refused { (refusal : Refusal) → self.old.state ≡ Refused refusal →

@@ -5,8 +5,8 @@ ghost use Rattle.np_model.specs.PluginRun.{IsListening};
 
 use crate::plug_core::Core;
 use np_endpoint::Halt;
-use np_laws::plugin_more_messages_law;
 use np_model::{PluginStage, Refusal};
+use np_model_laws::plugin_more_messages_law;
 use np_values::NoMemory;
 use np_wire::FeedError;
 
@@ -38,7 +38,7 @@ impl Core {
         }
     }
 
-    /// Meets the next message; where it can't go on, what it waits for or refuses.
+    /// Meets the next message; where it can't continue, what it waits for or refuses.
     fn listen(&mut self) -> Result<Option<Halt>, NoMemory>
         requires listens { IsListening self.old.stage }
         ensures listened { IfOk result (λ halt. Listened self.old self.new halt) }

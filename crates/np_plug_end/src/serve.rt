@@ -8,7 +8,7 @@ use crate::plug_core::Core;
 use crate::rules::{answer, phase, place, reply};
 use np_message::{Message, Payload};
 use np_model::{Phase, PluginStage};
-use np_proxy::Releases;
+use np_proxy_release::Releases;
 use np_values::NoMemory;
 use np_wire::encode;
 

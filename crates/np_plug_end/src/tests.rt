@@ -6,8 +6,6 @@ use std::alloc::Global;
 use std::process::Abort;
 use std::test::*;
 
-mod refusals;
-
 const HELLO: &[u8] = b"\0\0\0\x07\x01\x01\0\0\x01\0\x1b";
 
 const HELLO_1: &[u8] = b"\0\0\0\x07\x01\x01\0\0\x01\x01\x1b";
@@ -56,7 +54,7 @@ fn joined(alloc: Global, parts: &[&[u8]]) -> Result<Vec<u8>, Fail> {
     Ok(bytes)
 }
 
-// What was carried off an end.
+// What was written out an end.
 #[derive(Drop)]
 struct Carried {
     outgoing: Vec<u8>,
@@ -83,7 +81,7 @@ fn carry_journal(end: &mut PlugEnd, most: usize, to: &mut Vec<u8>) -> Result<(),
     Ok(())
 }
 
-// Cuts off what the end has made, at most so many bytes of each.
+// Cuts off what the end has made, at most this many bytes of each.
 fn carry_off(end: &mut PlugEnd, most: usize, carried: &mut Carried) -> Result<(), Fail>
     ensures { OnOk result (total_of end.new ≡ total_of end.old) }
 {
@@ -119,7 +117,7 @@ fn refused(at: u64, rule: Rule, first: u64, second: u64) -> PlugState {
     })
 }
 
-// Runs a row in chunks of this size, and then on a Turn that comes behind what ended it.
+// Runs a row in chunks of this size, and then on a Turn that comes after what ended it.
 fn runs_in(rt: &impl Abort, alloc: Global, row: &Row, size: usize) -> Result<(), Fail>
     requires some { 0 < size }
     requires few { size ≤ 8192 }
@@ -219,7 +217,7 @@ fn rests(rt: HostRuntime) -> Result<(), Fail> {
             outgoing: &[CODE_0, b"\0\0\0\x04\x47\x40\0\0"],
             journal: b"",
         },
-        // What comes behind Shutdown is neither served nor refused.
+        // What comes after Shutdown is neither served nor refused.
         Row {
             plugin: plugin(None),
             given: &[HELLO, SHUTDOWN, TURN, b"\0\0\0\x03"],

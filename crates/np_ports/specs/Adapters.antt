@@ -10,20 +10,20 @@ use Rattle.np_ports.specs.declared.std_peer.StdPeer.{StdPeer}
 use Rattle.np_ports.specs.declared.file_sink.FileSink.{FileSink}
 
 -- whether a start was done
-abbrev pub child_started : {R S I O E : Type 0} → ChildPeer R S I O E → Bool
+abbrev pub child_started : {R S I O E F D : Type 0} → ChildPeer R S I O E F D → Bool
 child_started p = p.started
 
 -- whether its program was started and not closed
-abbrev pub child_is_open : {R S I O E : Type 0} → ChildPeer R S I O E → Bool
+abbrev pub child_is_open : {R S I O E F D : Type 0} → ChildPeer R S I O E F D → Bool
 child_is_open p = is_some p.child
 
--- there are no pipes, and this isn't want of memory
+-- there are no pipes, and this isn't out of memory
 abbrev pub IsShut : Result ℕ Error → Type 0
 IsShut (Ok n) = ⊥
 IsShut (Err e) = error_kind e ≡ NotConnected
 
 -- whether a read answered the end
-abbrev pub child_ended : {R S I O E : Type 0} → ChildPeer R S I O E → Bool
+abbrev pub child_ended : {R S I O E F D : Type 0} → ChildPeer R S I O E F D → Bool
 child_ended p = p.ended
 
 -- whether a read of standard input answered the end
@@ -31,11 +31,11 @@ abbrev pub std_ended : StdPeer → Bool
 std_ended p = p.ended
 
 -- the counts of failures
-abbrev pub child_start_faults : {R S I O E : Type 0} → ChildPeer R S I O E → ℕ
+abbrev pub child_start_faults : {R S I O E F D : Type 0} → ChildPeer R S I O E F D → ℕ
 child_start_faults p = p.start_faults
 
 -- the failures of its reads and writes
-abbrev pub child_pipe_faults : {R S I O E : Type 0} → ChildPeer R S I O E → ℕ
+abbrev pub child_pipe_faults : {R S I O E F D : Type 0} → ChildPeer R S I O E F D → ℕ
 child_pipe_faults p = p.pipe_faults
 
 -- the failures of the platform's files

@@ -5,3 +5,4 @@ pub mod Sink
 pub mod Memory
 pub mod Plan
 pub mod Adapters
+pub mod Transfer

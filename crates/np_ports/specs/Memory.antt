@@ -59,7 +59,7 @@ scripted_start_faults p = p.start_faults
 abbrev pub scripted_pipe_faults : ScriptedPeer → ℕ
 scripted_pipe_faults p = p.pipe_faults
 
--- an error is want of memory alone
+-- an error can only be out of memory
 abbrev pub NeverFails : {T : Type 0} → Result T PortError → Type 0
 NeverFails (Ok x) = Unit {0}
 NeverFails (Err Failed) = ⊥

@@ -27,7 +27,7 @@ gave t n buf = record (asked t) { given = t.given ++ take n buf; left = drop n t
 abbrev pub took : Known → List ℕ → Known
 took t bytes = record t { taken = t.taken ++ bytes }
 
--- a start adds its words, also where it failed; want of memory adds nothing
+-- a start adds its words, also where it failed; running out of memory adds nothing
 abbrev pub Starts : Option Known → Option Known → Result (Unit {0}) PortError → List (List ℕ) → Type 0
 Starts None new r words = Unit {0}
 Starts (Some t) new (Ok x) words = new ≡ Some (started t words)

@@ -26,7 +26,7 @@ fails_next p = list_any (λ n. n == p.next) p.failing
 abbrev pub after_call : Plan → Plan
 after_call p = record p { next = min (p.next + 1) (2 ^ 64 - 1) }
 
--- a call answers Failed exactly where it is to fail; want of memory may come before either answer
+-- a call answers Failed exactly where it is to fail; out of memory may come before either answer
 abbrev pub FailsWhere : {T : Type 0} → Bool → Result T PortError → Type 0
 FailsWhere fails (Err NoMemory) = Unit {0}
 FailsWhere true (Ok x) = ⊥

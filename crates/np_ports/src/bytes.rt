@@ -2,7 +2,7 @@
 
 ghost use Rattle.std.specs.Prelude.{◌≡◌, ◌<◌, ◌≤◌, take, drop, length, min};
 
-// Copies the front of `from` to the front of `buf`, at most `most` bytes, and tells how many.
+// Copies the front of `from` to the front of `buf`, at most `most` bytes, and reports how many.
 pub(crate) fn copy_front(from: &[u8], most: usize, buf: &mut [u8]) -> usize
     ensures count { result ≡ min (length from.now) (min most (length buf.old)) }
     ensures bytes { take result buf.new ≡ take result from.now }
@@ -13,7 +13,7 @@ pub(crate) fn copy_front(from: &[u8], most: usize, buf: &mut [u8]) -> usize
     n
 }
 
-// Copies what stands in `bytes` from byte `at` on to the front of `buf`, and tells how many bytes.
+// Copies what stands in `bytes` from byte `at` on to the front of `buf`, and reports how many bytes.
 pub(crate) fn copy_from(bytes: &[u8], at: u64, buf: &mut [u8]) -> usize
     ensures count { result ≡ min (length (drop at bytes.now)) (length buf.old) }
     ensures bytes { take result buf.new ≡ take result (drop at bytes.now) }

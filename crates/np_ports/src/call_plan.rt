@@ -18,7 +18,7 @@ impl CallPlan {
         CallPlan { fail_at, next: 1 }
     }
 
-    // Takes the next number, and tells whether it is listed.
+    // Takes the next number, and reports whether it is listed.
     pub(crate) fn fails_now(&mut self) -> bool
         ensures listed { result ≡ fails_next (plan_of self.old) }
         ensures next { plan_of self.new ≡ after_call (plan_of self.old) }

@@ -9,8 +9,9 @@ ghost use Rattle.np_ports.specs.Adapters.{IsShut, child_started, child_is_open, 
 use crate::faults::{fail, refuse};
 use crate::{Peer, PortError};
 use std::alloc::Global;
+use std::fs::Files as FileSystem;
 use std::io;
-use std::io::{ErrorKind, Read, Write};
+use std::io::{ErrorKind, PipeWriter, Read, Write};
 use std::process::{Child, Command, ExitStatus, OpenProcess, Processes, Stdio};
 use std::rt::Clock;
 use std::time::Duration;
@@ -20,21 +21,29 @@ const TRIES: u32 = 200;
 
 const PAUSE: u64 = 10;
 
+/// A program that runs, and the pipe to its standard input. The pipe is made here and not by the standard library, whose own writes to a child
+/// block a signal before each call and allow it again afterwards: three more system calls. The runtime ignores that signal.
+#[derive(Drop)]
+pub struct Started<P: OpenProcess> {
+    process: Child<P>,
+    input: PipeWriter,
+}
+
 /// A started program's pipes: reads give what it prints, writes go to its standard input, and its standard
-/// error is this program's. It tells nothing of the bytes. A call before a start, and a start after one that
+/// error is this program's. It reports nothing of the bytes. A call before a start, and a start after one that
 /// was done, fail. This project's own.
 #[derive(Drop)]
-pub struct ChildPeer<R: Processes + Clock + Drop> {
+pub struct ChildPeer<R: Processes + FileSystem + Clock + Drop> {
     runtime: R,
     alloc: Global,
-    child: Option<Child<R::Started>>,
+    child: Option<Started<R::Started>>,
     started: bool,
     ended: bool,
     start_faults: u64,
     pipe_faults: u64,
 }
 
-impl<R: Processes + Clock + Drop> ChildPeer<R> {
+impl<R: Processes + FileSystem + Clock + Drop> ChildPeer<R> {
     /// A peer that isn't started yet.
     pub fn new(runtime: R, alloc: Global) -> ChildPeer<R>
         ensures started { child_started result ≡ false }
@@ -64,11 +73,11 @@ impl<R: Processes + Clock + Drop> ChildPeer<R> {
         ensures start_faults { child_start_faults self.new ≡ child_start_faults self.old }
         ensures pipe_faults { child_pipe_faults self.new ≡ child_pipe_faults self.old }
     {
-        let mut child = self.child.take()?;
-        drop(child.stdin.take());
-        drop(child.stdout.take());
+        let Started { mut process, input } = self.child.take()?;
+        drop(input);
+        drop(process.stdout.take());
         for _ in 0..TRIES {
-            if let Ok(Some(status)) = child.try_wait() {
+            if let Ok(Some(status)) = process.try_wait() {
                 return Some(status);
             }
             std::thread::sleep(&self.runtime, Duration::from_millis(PAUSE));
@@ -76,7 +85,7 @@ impl<R: Processes + Clock + Drop> ChildPeer<R> {
         None
     }
 
-    fn spawn(&self, words: &[String]) -> io::Result<Child<R::Started>> {
+    fn spawn(&self, words: &[String]) -> io::Result<Started<R::Started>> {
         let Some((program, arguments)) = words.split_first() else {
             return Err(io::Error::from(ErrorKind::InvalidInput));
         };
@@ -84,39 +93,39 @@ impl<R: Processes + Clock + Drop> ChildPeer<R> {
         for word in arguments {
             command.arg(word.as_str())?;
         }
-        command.stdin(Stdio::piped());
+        let (output, input) = io::pipe(&self.runtime)?;
+        command.stdin(Stdio::from(output));
         command.stdout(Stdio::piped());
-        command.spawn(&self.runtime)
+        let process = command.spawn(&self.runtime)?;
+        Ok(Started { process, input })
     }
 }
 
-fn read_output<P: OpenProcess>(child: &mut Option<Child<P>>, buf: &mut [u8]) -> io::Result<usize>
+fn read_output<P: OpenProcess>(child: &mut Option<Started<P>>, buf: &mut [u8]) -> io::Result<usize>
     ensures bound { IfOk result (λ n. n ≤ length buf.new) }
     ensures shut { is_some child.old ≡ false → IsShut result }
     ensures open { is_some child.new ≡ is_some child.old }
 {
     if let Some(child) = child {
-        if let Some(output) = &mut child.stdout {
+        if let Some(output) = &mut child.process.stdout {
             return output.read(buf);
         }
     }
     Err(io::Error::from(ErrorKind::NotConnected))
 }
 
-fn write_input<P: OpenProcess>(child: &mut Option<Child<P>>, bytes: &[u8]) -> io::Result<usize>
+fn write_input<P: OpenProcess>(child: &mut Option<Started<P>>, bytes: &[u8]) -> io::Result<usize>
     ensures bound { IfOk result (λ n. n ≤ length bytes.now) }
     ensures shut { is_some child.old ≡ false → IsShut result }
     ensures open { is_some child.new ≡ is_some child.old }
 {
     if let Some(child) = child {
-        if let Some(input) = &mut child.stdin {
-            return input.write(bytes);
-        }
+        return child.input.write(bytes);
     }
     Err(io::Error::from(ErrorKind::NotConnected))
 }
 
-impl<R: Processes + Clock + Drop> Peer for ChildPeer<R> {
+impl<R: Processes + FileSystem + Clock + Drop> Peer for ChildPeer<R> {
     ghost known = { λ p. None };
 
     ghost has_ended = { λ p. child_ended p };

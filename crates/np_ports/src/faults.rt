@@ -18,7 +18,7 @@ pub(crate) fn fail<T>(faults: &mut u64) -> Result<T, PortError>
     Err(PortError::Failed)
 }
 
-// Answers an error of the platform: want of memory where it is that, and else a failure, which is counted.
+// Answers an error of the platform: out of memory where it is that, and else a failure, which is counted.
 pub(crate) fn refuse<T>(faults: &mut u64, error: Error) -> Result<T, PortError>
     ensures refused { IsErr result }
     ensures memory { IsErrOf result PortError.NoMemory ↔ error_kind error ≡ ErrorKind.OutOfMemory }

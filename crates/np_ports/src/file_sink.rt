@@ -10,7 +10,7 @@ use std::io::Write;
 use std::{fs, io, rt};
 
 /// A file of the platform, by its path. It is made at the first write, in place of an old one, and stays
-/// open from then on. It tells nothing of the bytes. This project's own.
+/// open from then on. It reports nothing of the bytes. This project's own.
 #[derive(Drop)]
 pub struct FileSink<R: rt::Files + Drop> {
     runtime: R,

@@ -9,7 +9,7 @@ use std::alloc::Global;
 use std::io::{Read, Seek, SeekFrom};
 use std::{fs, io, rt};
 
-/// The files of the platform, by their paths. The file that was read last stays open. It tells nothing of
+/// The files of the platform, by their paths. The file that was read last stays open. It reports nothing of
 /// the contents. This project's own.
 #[derive(Drop)]
 pub struct HostFiles<R: rt::Files + Drop> {

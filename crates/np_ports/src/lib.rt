@@ -1,4 +1,4 @@
-//! The environment as traits, with forms in memory and adapters to the platform.
+//! The environment as traits, with forms in memory, adapters to the platform, and whole transfers over them.
 #![tactic(auto)]
 
 mod bytes;
@@ -13,6 +13,7 @@ mod host_files;
 mod mem_files;
 mod mem_sink;
 mod peer_memory;
+mod reading;
 mod scripted_peer;
 mod std_peer;
 mod stdout_sink;
@@ -23,6 +24,7 @@ mod sure_sink;
 mod tests;
 mod traits;
 mod words;
+mod writing;
 
 pub use child_peer::ChildPeer;
 pub use error::PortError;
@@ -31,6 +33,7 @@ pub use file_sink::FileSink;
 pub use host_files::HostFiles;
 pub use mem_files::MemFiles;
 pub use mem_sink::MemSink;
+pub use reading::{SCRIPT_LIMIT, read_script};
 pub use scripted_peer::ScriptedPeer;
 pub use std_peer::StdPeer;
 pub use stdout_sink::StdoutSink;
@@ -38,3 +41,4 @@ pub use sure_files::SureFiles;
 pub use sure_peer::SurePeer;
 pub use sure_sink::SureSink;
 pub use traits::{Files, Peer, Sink};
+pub use writing::{print_all, send_all};

@@ -11,7 +11,7 @@ use std::io::{Read, Stdin, Stdout, Write};
 
 /// The program that started this one, whose pipes are standard input and output, with no buffer. It is
 /// never started: a start fails and is counted. A write to a pipe whose reader has gone fails, since a
-/// program starts with SIGPIPE ignored. It tells nothing of the bytes. This project's own.
+/// program starts with SIGPIPE ignored. It reports nothing of the bytes. This project's own.
 #[derive(Drop)]
 pub struct StdPeer {
     stdin: Stdin,

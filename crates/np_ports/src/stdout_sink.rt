@@ -8,7 +8,7 @@ use crate::{PortError, Sink};
 use std::io::{Stdout, Write};
 
 /// Standard output, with no buffer. A write to a pipe whose reader has gone fails, since a program starts
-/// with SIGPIPE ignored. It tells nothing of the bytes. This project's own.
+/// with SIGPIPE ignored. It reports nothing of the bytes. This project's own.
 #[derive(Drop)]
 pub struct StdoutSink {
     stdout: Stdout,

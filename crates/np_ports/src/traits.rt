@@ -31,7 +31,7 @@ pub trait Peer {
         ensures pipe_faults { pipe_faults self.new ≡ pipe_faults self.old }
         ensures ended { has_ended self.new ≡ has_ended self.old };
 
-    /// Reads bytes of the other program to the front of `buf`, and tells how many; 0 is the end.
+    /// Reads bytes of the other program to the front of `buf`, and reports how many; 0 is the end.
     fn read(&mut self, buf: &mut [u8]) -> Result<usize, PortError>
         requires { 0 < length buf.old }
         ensures bound { IfOk result (λ n. n ≤ length buf.new) }
@@ -41,7 +41,7 @@ pub trait Peer {
         ensures start_faults { start_faults self.new ≡ start_faults self.old }
         ensures ended { EndsAt (has_ended self.old) (has_ended self.new) result };
 
-    /// Writes bytes of the front of `bytes` to the other program, and tells how many.
+    /// Writes bytes of the front of `bytes` to the other program, and reports how many.
     fn write(&mut self, bytes: &[u8]) -> Result<usize, PortError>
         requires { 0 < length bytes.now }
         ensures bound { IfOk result (λ n. (0 < n) × (n ≤ length bytes.now)) }
@@ -61,7 +61,7 @@ pub trait Files {
 
     ghost faults: { Self → ℕ };
 
-    /// Reads bytes of the named file, from byte `at` on, to the front of `buf`, and tells how many; 0 is the end.
+    /// Reads bytes of the named file, from byte `at` on, to the front of `buf`, and reports how many; 0 is the end.
     fn read(&mut self, name: &str, at: u64, buf: &mut [u8]) -> Result<usize, PortError>
         requires { 0 < length buf.old }
         ensures bound { IfOk result (λ n. n ≤ length buf.new) }
@@ -85,7 +85,7 @@ pub trait Sink {
 
     ghost faults: { Self → ℕ };
 
-    /// Prints bytes of the front of `bytes`, and tells how many.
+    /// Prints bytes of the front of `bytes`, and reports how many.
     fn write(&mut self, bytes: &[u8]) -> Result<usize, PortError>
         requires { 0 < length bytes.now }
         ensures bound { IfOk result (λ n. (0 < n) × (n ≤ length bytes.now)) }

@@ -1,7 +1,7 @@
 -- The first line of some bytes.
 use Rattle.std.proofs.Common.{◌≡◌, ℕ, suc, ◌+◌, ◌<◌, ◌≤◌, eqb, List, [], ◌∷◌, length, take, drop, Bool, true, false, cond, not, None, refl, ap, arith, add-one}
 use Rattle.std.specs.List.{position_or_len, position}
-use Rattle.np_grammar.specs.Words.{lines_of, onto_first}
+use Rattle.np_script_grammar.specs.Words.{lines_of, onto_first}
 
 abbrev at : List ℕ → ℕ
 at = position_or_len (λ b. eqb b 10)

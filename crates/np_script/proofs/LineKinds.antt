@@ -1,25 +1,25 @@
 -- What the words of one line say, and why they are refused.
 use Rattle.std.proofs.Common.{◌≡◌, ◌<◌, inl, ℕ, List, [], ◌∷◌, ◌++◌, length, map, true, false, ◌==◌, Result, Ok, Err, Some, None, slice_index_or, refl, ap, sym, ◌∙◌, subst, arith}
 use Rattle.np_values.specs.declared.name.Side.{Side}
-use Rattle.np_grammar.specs.declared.refusal.ScriptKind.{ScriptKind}
-use Rattle.np_grammar.specs.declared.refusal.ScriptKind.TheVariants as kinds
-use Rattle.np_grammar.specs.declared.line.Field.{Field}
-use Rattle.np_grammar.specs.declared.place.Place.{Place}
-use Rattle.np_grammar.specs.declared.place.Place.TheVariants.{Head}
-use Rattle.np_grammar.specs.Fields.{field_word}
-use Rattle.np_grammar.specs.Words.{is_line, words_of, is_skipped}
-use Rattle.np_grammar.specs.Forms.{Form, Line, Table, form_of, line_words, HasForm, KeepsLimits}
-use Rattle.np_grammar.specs.Scripts.{place_behind}
-use Rattle.np_grammar.specs.Order.{Standing, at_first, standing_after, MayFollow}
-use Rattle.np_grammar.specs.Refusals.{standing_behind, HasFields, IsNoWord, PassesLimit, IsKind}
-use Rattle.np_words.specs.declared.error.FieldError.{FieldError}
-use Rattle.np_words.specs.declared.error.FieldError.TheVariants as fields
-use Rattle.np_words.specs.Reads.{Reads}
-use Rattle.np_words.specs.Lines.{SaysFields}
-use Rattle.np_build.specs.declared.state.Building.{Building}
-use Rattle.np_build.specs.Building.{built_after}
-use Rattle.np_build.specs.Laws.{BuiltGoesOn}
-use Rattle.np_text_laws.specs.Laws.{LinesGoOn}
+use Rattle.np_script_grammar.specs.declared.refusal.ScriptKind.{ScriptKind}
+use Rattle.np_script_grammar.specs.declared.refusal.ScriptKind.TheVariants as kinds
+use Rattle.np_script_grammar.specs.declared.line.Field.{Field}
+use Rattle.np_script_grammar.specs.declared.place.Place.{Place}
+use Rattle.np_script_grammar.specs.declared.place.Place.TheVariants.{Head}
+use Rattle.np_script_grammar.specs.Fields.{field_word}
+use Rattle.np_script_grammar.specs.Words.{is_line, words_of, is_skipped}
+use Rattle.np_script_grammar.specs.Forms.{Form, Line, Table, form_of, line_words, HasForm, KeepsLimits}
+use Rattle.np_script_grammar.specs.Scripts.{place_behind}
+use Rattle.np_script_grammar.specs.Order.{Standing, at_first, standing_after, MayFollow}
+use Rattle.np_script_grammar.specs.Refusals.{standing_behind, HasFields, IsNoWord, PassesLimit, IsKind}
+use Rattle.np_script_words.specs.declared.error.FieldError.{FieldError}
+use Rattle.np_script_words.specs.declared.error.FieldError.TheVariants as fields
+use Rattle.np_script_words.specs.Reads.{Reads}
+use Rattle.np_script_words.specs.Lines.{SaysFields}
+use Rattle.np_script_builder.specs.declared.state.Building.{Building}
+use Rattle.np_script_builder.specs.Building.{built_after}
+use Rattle.np_script_builder.specs.Laws.{BuiltGoesOn}
+use Rattle.np_script_text_laws.specs.Laws.{LinesGoOn}
 use Rattle.np_script.specs.declared.read.LineError.{LineError}
 use Rattle.np_script.specs.declared.read.LineError.TheVariants as errors
 use Rattle.np_script.specs.Reading.{GoesOn, HasKind, ReadsWords, HasRead, ReadsLine}

@@ -4,21 +4,21 @@ use Rattle.std.specs.Prelude.{codes}
 use Rattle.std.specs.List.{flat_map}
 use Rattle.std.proofs.lemmas.List.{length-map}
 use Rattle.np_values.specs.declared.name.Side.TheVariants as sides
-use Rattle.np_grammar.specs.declared.page.Page.{Page}
-use Rattle.np_grammar.specs.declared.plugin.Plugin.{Plugin}
-use Rattle.np_grammar.specs.declared.refusal.ScriptError.{ScriptError}
-use Rattle.np_grammar.specs.Words.{lines_of}
-use Rattle.np_grammar.specs.Forms.{Line}
-use Rattle.np_grammar.specs.Rows.{number, command_line}
-use Rattle.np_grammar.specs.Scripts.{alone, declaration_lines, IsPageOf, IsPluginOf, canonical_page_lines, canonical_plugin_lines}
-use Rattle.np_grammar.specs.Order.{at_first, AreInOrder}
-use Rattle.np_grammar.specs.Grammar.{AreLinesOf, IsPageScript, IsPluginScript, KeepsPageRules, KeepsPluginRules, canonical_page, canonical_plugin, script_limit}
-use Rattle.np_grammar.specs.Refusals.{FirstError}
-use Rattle.np_grammar_laws.specs.Laws.{CanonicalLinesSayPages, CanonicalLinesSayPlugins, CanonicalPagesAreInOrder, CanonicalPluginsAreInOrder}
-use Rattle.np_text_laws.specs.Laws.{OneSay, TextsHaveTheirLines, LinesAreFew, RefusedTextsAreNoScripts}
-use Rattle.np_build.specs.declared.state.Building.{Building}
-use Rattle.np_build.specs.Building.{built, page_in, plugin_in}
-use Rattle.np_build.specs.Laws.{PagesAreBuilt, PluginsAreBuilt}
+use Rattle.np_script_grammar.specs.declared.page.Page.{Page}
+use Rattle.np_script_grammar.specs.declared.plugin.Plugin.{Plugin}
+use Rattle.np_script_grammar.specs.declared.refusal.ScriptError.{ScriptError}
+use Rattle.np_script_grammar.specs.Words.{lines_of}
+use Rattle.np_script_grammar.specs.Forms.{Line}
+use Rattle.np_script_grammar.specs.Rows.{number, command_line}
+use Rattle.np_script_grammar.specs.Scripts.{alone, declaration_lines, IsPageOf, IsPluginOf, canonical_page_lines, canonical_plugin_lines}
+use Rattle.np_script_grammar.specs.Order.{at_first, AreInOrder}
+use Rattle.np_script_grammar.specs.Grammar.{AreLinesOf, IsPageScript, IsPluginScript, KeepsPageRules, KeepsPluginRules, canonical_page, canonical_plugin, script_limit}
+use Rattle.np_script_grammar.specs.Refusals.{FirstError}
+use Rattle.np_script_line_laws.specs.Laws.{CanonicalLinesSayPages, CanonicalLinesSayPlugins, CanonicalPagesAreInOrder, CanonicalPluginsAreInOrder}
+use Rattle.np_script_text_laws.specs.Laws.{OneSay, TextsHaveTheirLines, LinesAreFew, RefusedTextsAreNoScripts}
+use Rattle.np_script_builder.specs.declared.state.Building.{Building}
+use Rattle.np_script_builder.specs.Building.{built, page_in, plugin_in}
+use Rattle.np_script_builder.specs.Laws.{PagesAreBuilt, PluginsAreBuilt}
 
 same-building : (o : Option Building) (b c : Building) → o ≡ Some b → o ≡ Some c → b ≡ c
 same-building o b c e f = let somes : Some b ≡ Some c = sym e ∙ f in cc

@@ -2,24 +2,24 @@
 use Rattle.std.proofs.Common.{◌≡◌, ◌⊎◌, inl, inr, ◌≤◌, ◌<◌, ℕ, suc, ◌+◌, List, [], ◌∷◌, ◌++◌, length, Some, Result, Ok, Err, refl, ap, sym, ◌∙◌, subst, arith}
 use Rattle.np_values.specs.declared.name.Side.{Side}
 use Rattle.np_values.specs.declared.name.Side.TheVariants as sides
-use Rattle.np_grammar.specs.declared.page.Page.{Page}
-use Rattle.np_grammar.specs.declared.plugin.Plugin.{Plugin}
-use Rattle.np_grammar.specs.declared.refusal.ScriptKind.{ScriptKind}
-use Rattle.np_grammar.specs.declared.refusal.ScriptKind.TheVariants as kinds
-use Rattle.np_grammar.specs.declared.refusal.ScriptError.{ScriptError}
-use Rattle.np_grammar.specs.declared.place.Place.{Place}
-use Rattle.np_grammar.specs.declared.place.Place.TheVariants.{Head}
-use Rattle.np_grammar.specs.Words.{lines_of}
-use Rattle.np_grammar.specs.Forms.{Line}
-use Rattle.np_grammar.specs.Scripts.{place_behind, IsPageOf, IsPluginOf}
-use Rattle.np_grammar.specs.Order.{Standing, at_first, standing_after, MayFollow, AreInOrder}
-use Rattle.np_grammar.specs.Grammar.{AreLinesOf, IsPageScript, IsPluginScript, KeepsPageRules, KeepsPluginRules, script_limit}
-use Rattle.np_grammar.specs.Refusals.{standing_behind, AreScript, Begins, IsRefusedLine, FirstError}
-use Rattle.np_grammar_laws.specs.Laws.{last_place, CanonicalPagesAreInOrder, CanonicalPluginsAreInOrder}
-use Rattle.np_text_laws.specs.Laws.{TextsCanBeCompleted, RefusedLinesEnd, OneSay, OneRefusal}
-use Rattle.np_build.specs.declared.state.Building.{Building}
-use Rattle.np_build.specs.Building.{built_after, page_in, plugin_in}
-use Rattle.np_build.specs.Laws.{LinesInOrderAreBuilt, BuiltGoesOn, BuiltPages, BuiltPlugins, PagesAreBuilt, PluginsAreBuilt}
+use Rattle.np_script_grammar.specs.declared.page.Page.{Page}
+use Rattle.np_script_grammar.specs.declared.plugin.Plugin.{Plugin}
+use Rattle.np_script_grammar.specs.declared.refusal.ScriptKind.{ScriptKind}
+use Rattle.np_script_grammar.specs.declared.refusal.ScriptKind.TheVariants as kinds
+use Rattle.np_script_grammar.specs.declared.refusal.ScriptError.{ScriptError}
+use Rattle.np_script_grammar.specs.declared.place.Place.{Place}
+use Rattle.np_script_grammar.specs.declared.place.Place.TheVariants.{Head}
+use Rattle.np_script_grammar.specs.Words.{lines_of}
+use Rattle.np_script_grammar.specs.Forms.{Line}
+use Rattle.np_script_grammar.specs.Scripts.{place_behind, IsPageOf, IsPluginOf}
+use Rattle.np_script_grammar.specs.Order.{Standing, at_first, standing_after, MayFollow, AreInOrder}
+use Rattle.np_script_grammar.specs.Grammar.{AreLinesOf, IsPageScript, IsPluginScript, KeepsPageRules, KeepsPluginRules, script_limit}
+use Rattle.np_script_grammar.specs.Refusals.{standing_behind, AreScript, Begins, IsRefusedLine, FirstError}
+use Rattle.np_script_line_laws.specs.Laws.{last_place, CanonicalPagesAreInOrder, CanonicalPluginsAreInOrder}
+use Rattle.np_script_text_laws.specs.Laws.{TextsCanBeCompleted, RefusedLinesEnd, OneSay, OneRefusal}
+use Rattle.np_script_builder.specs.declared.state.Building.{Building}
+use Rattle.np_script_builder.specs.Building.{built_after, page_in, plugin_in}
+use Rattle.np_script_builder.specs.Laws.{LinesInOrderAreBuilt, BuiltGoesOn, BuiltPages, BuiltPlugins, PagesAreBuilt, PluginsAreBuilt}
 use Rattle.np_script.specs.declared.read.LineError.{LineError}
 use Rattle.np_script.specs.declared.read.LineError.TheVariants as errors
 use Rattle.np_script.specs.declared.reader.Reader.{Reader}

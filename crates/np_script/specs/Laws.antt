@@ -1,11 +1,11 @@
 -- What holds of scripts and their canonical texts.
 use Rattle.std.specs.Prelude.{◌≡◌, ◌≤◌, ℕ, List, length}
 use Rattle.np_values.specs.declared.name.Side.TheVariants as sides
-use Rattle.np_grammar.specs.declared.page.Page.{Page}
-use Rattle.np_grammar.specs.declared.plugin.Plugin.{Plugin}
-use Rattle.np_grammar.specs.declared.refusal.ScriptError.{ScriptError}
-use Rattle.np_grammar.specs.Grammar.{IsPageScript, IsPluginScript, KeepsPageRules, KeepsPluginRules, canonical_page, canonical_plugin, script_limit}
-use Rattle.np_grammar.specs.Refusals.{FirstError}
+use Rattle.np_script_grammar.specs.declared.page.Page.{Page}
+use Rattle.np_script_grammar.specs.declared.plugin.Plugin.{Plugin}
+use Rattle.np_script_grammar.specs.declared.refusal.ScriptError.{ScriptError}
+use Rattle.np_script_grammar.specs.Grammar.{IsPageScript, IsPluginScript, KeepsPageRules, KeepsPluginRules, canonical_page, canonical_plugin, script_limit}
+use Rattle.np_script_grammar.specs.Refusals.{FirstError}
 
 -- Bytes say one page.
 abbrev pub OnePage : Type 0
@@ -15,7 +15,7 @@ OnePage = (bytes : List ℕ) (page other : Page) → IsPageScript bytes page →
 abbrev pub OnePlugin : Type 0
 OnePlugin = (bytes : List ℕ) (plugin other : Plugin) → IsPluginScript bytes plugin → IsPluginScript bytes other → plugin ≡ other
 
--- Bytes that are refused are no script.
+-- Bytes that are refused aren't a script.
 abbrev pub NoPageIsRefused : Type 0
 NoPageIsRefused = (bytes : List ℕ) (page : Page) (e : ScriptError) → IsPageScript bytes page → ¬ FirstError sides.Page bytes e
 

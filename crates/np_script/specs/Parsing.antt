@@ -1,12 +1,12 @@
 -- What a reader of a whole script answers.
 use Rattle.std.specs.Prelude.{◌≡◌, ◌≤◌, ℕ, List, length, Result, Ok, Err}
 use Rattle.np_values.specs.declared.name.Side.{Side}
-use Rattle.np_grammar.specs.Words.{lines_of}
-use Rattle.np_grammar.specs.Order.{at_first}
-use Rattle.np_grammar.specs.Grammar.{script_limit}
-use Rattle.np_grammar.specs.Refusals.{IsRefusedLine, FirstError}
-use Rattle.np_grammar_laws.specs.Laws.{last_place}
-use Rattle.np_build.specs.Building.{at_start}
+use Rattle.np_script_grammar.specs.Words.{lines_of}
+use Rattle.np_script_grammar.specs.Order.{at_first}
+use Rattle.np_script_grammar.specs.Grammar.{script_limit}
+use Rattle.np_script_grammar.specs.Refusals.{IsRefusedLine, FirstError}
+use Rattle.np_script_line_laws.specs.Laws.{last_place}
+use Rattle.np_script_builder.specs.Building.{at_start}
 use Rattle.np_script.specs.declared.error.ParseError.{ParseError}
 use Rattle.np_script.specs.declared.error.ParseError.TheVariants as errors
 use Rattle.np_script.specs.declared.reader.Reader.{Reader}
@@ -30,7 +30,7 @@ ReadsAll side bytes reader (Ok done) = HasReadAll side bytes reader
 ReadsAll side bytes reader (Err (errors.Script e)) = IsRefusedLine side (lines_of bytes) e
 ReadsAll side bytes reader (Err errors.NoMemory) = Unit {0}
 
--- all lines were read, and a script may end behind them
+-- all lines were read, and a script may end after them
 pub record HasReadScript (side : Side) (bytes : List ℕ) (reader : Reader) : Type 0 where
   pub size : length bytes ≤ script_limit
   pub all : HasReadAll side bytes reader

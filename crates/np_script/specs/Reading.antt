@@ -1,16 +1,16 @@
 -- How far a script was read.
 use Rattle.std.specs.Prelude.{◌≡◌, ℕ, List, [], ◌∷◌, ◌++◌, true, false, Result, Ok, Err, Some}
 use Rattle.np_values.specs.declared.name.Side.{Side}
-use Rattle.np_grammar.specs.declared.refusal.ScriptKind.{ScriptKind}
-use Rattle.np_grammar.specs.declared.refusal.ScriptKind.TheVariants as kinds
-use Rattle.np_grammar.specs.Words.{is_line, words_of, is_skipped}
-use Rattle.np_grammar.specs.Forms.{Form, Line, line_words}
-use Rattle.np_grammar.specs.Tables.{table_at}
-use Rattle.np_grammar.specs.Order.{Standing, at_first, standing_after, declares_twice, MayFollow}
-use Rattle.np_grammar.specs.Grammar.{AreLinesOf}
-use Rattle.np_grammar.specs.Refusals.{standing_behind, HasFields, IsNoWord, PassesLimit, IsKind}
-use Rattle.np_build.specs.declared.state.Building.{Building}
-use Rattle.np_build.specs.Building.{built_after, built}
+use Rattle.np_script_grammar.specs.declared.refusal.ScriptKind.{ScriptKind}
+use Rattle.np_script_grammar.specs.declared.refusal.ScriptKind.TheVariants as kinds
+use Rattle.np_script_grammar.specs.Words.{is_line, words_of, is_skipped}
+use Rattle.np_script_grammar.specs.Forms.{Form, Line, line_words}
+use Rattle.np_script_grammar.specs.Tables.{table_at}
+use Rattle.np_script_grammar.specs.Order.{Standing, at_first, standing_after, declares_twice, MayFollow}
+use Rattle.np_script_grammar.specs.Grammar.{AreLinesOf}
+use Rattle.np_script_grammar.specs.Refusals.{standing_behind, HasFields, IsNoWord, PassesLimit, IsKind}
+use Rattle.np_script_builder.specs.declared.state.Building.{Building}
+use Rattle.np_script_builder.specs.Building.{built_after, built}
 use Rattle.np_script.specs.declared.read.LineError.{LineError}
 use Rattle.np_script.specs.declared.read.LineError.TheVariants as errors
 
@@ -58,7 +58,7 @@ pub record Refuses (side : Side) (order : Standing) (line : List ℕ) (kind : Sc
   pub is_kind : IsKind side order line kind
   pub counts : is_line line ≡ true → is_skipped (words_of line) ≡ false
 
--- a line was read behind any text that led there, or refused, or memory ran out
+-- a line was read after any text that led there, or refused, or memory ran out
 abbrev pub ReadsLine : Side → Standing → Building → List ℕ → Standing → Building → Result (Unit {0}) LineError → Type 0
 ReadsLine side order building line order1 building1 (Ok done) = (text : List (List ℕ)) → HasRead side text order building → HasRead side (text ++ line ∷ []) order1 building1
 ReadsLine side order building line order1 building1 (Err (errors.Refused kind)) = Refuses side order line kind

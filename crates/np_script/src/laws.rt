@@ -1,12 +1,14 @@
 //! What holds of scripts and their canonical texts.
 ghost use Rattle.np_script.specs.Laws.{OnePage, OnePlugin, NoPageIsRefused, NoPluginIsRefused, PageScriptsKeepRules, PluginScriptsKeepRules, CanonicalPagesAreScripts, CanonicalPluginsAreScripts, OneCanonicalPage, OneCanonicalPlugin, CommandsAreFew};
 
-use np_build::{pages_are_built, plugins_are_built};
-use np_grammar_laws::{
+use np_script_builder::{pages_are_built, plugins_are_built};
+use np_script_line_laws::{
     canonical_lines_say_pages, canonical_lines_say_plugins, canonical_pages_are_in_order,
     canonical_plugins_are_in_order,
 };
-use np_text_laws::{lines_are_few, one_say, refused_texts_are_no_scripts, texts_have_their_lines};
+use np_script_text_laws::{
+    lines_are_few, one_say, refused_texts_are_no_scripts, texts_have_their_lines,
+};
 
 /// Bytes say at most one page.
 pub fn one_page()

@@ -15,12 +15,11 @@ pub use laws::{
     no_page_is_refused, no_plugin_is_refused, one_canonical_page, one_canonical_plugin, one_page,
     one_plugin, page_scripts_keep_rules, plugin_scripts_keep_rules,
 };
-pub use np_grammar::{
+pub use np_script_grammar::{
     Action, Body, ClassDef, Classes, Command, Commands, HandlerDef, Handlers, Member, Members,
     Operand, Operands, Page, Plugin, Resource, Resources, ScriptError, ScriptKind, TaskDef, Tasks,
 };
-pub use np_levels::{page_level, plugin_level};
-pub use np_print::{print_page, print_plugin};
+pub use np_script_print::{print_page, print_plugin};
 pub use parse::{parse_page, parse_plugin};
 pub use script::{PageScript, PluginScript};
 

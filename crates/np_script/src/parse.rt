@@ -1,25 +1,25 @@
 //! Whole scripts.
 ghost use Rattle.std.specs.Prelude.{◌≡◌, ◌≤◌, ◌⊎◌, length, Ok, Err, IfOk};
 ghost use Rattle.np_values.specs.declared.name.Side.TheVariants.{Page as of_page, Plug as of_plugin};
-ghost use Rattle.np_grammar.specs.declared.page.Page.{Page as PageValue};
-ghost use Rattle.np_grammar.specs.declared.plugin.Plugin.{Plugin as PluginValue};
-ghost use Rattle.np_grammar.specs.declared.refusal.ScriptError.{ScriptError as ErrorValue};
-ghost use Rattle.np_grammar.specs.Grammar.{IsPageScript, IsPluginScript};
-ghost use Rattle.np_grammar.specs.Refusals.{FirstError};
+ghost use Rattle.np_script_grammar.specs.declared.page.Page.{Page as PageValue};
+ghost use Rattle.np_script_grammar.specs.declared.plugin.Plugin.{Plugin as PluginValue};
+ghost use Rattle.np_script_grammar.specs.declared.refusal.ScriptError.{ScriptError as ErrorValue};
+ghost use Rattle.np_script_grammar.specs.Grammar.{IsPageScript, IsPluginScript};
+ghost use Rattle.np_script_grammar.specs.Refusals.{FirstError};
 
 use crate::laws::{no_page_is_refused, no_plugin_is_refused, one_page, one_plugin};
 use crate::reader::{Reader, read_script};
 use crate::{PageScript, ParseError, PluginScript};
-use np_build::{built_pages, built_plugins};
-use np_grammar_laws::{canonical_pages_are_in_order, canonical_plugins_are_in_order};
-use np_text_laws::one_refusal;
+use np_script_builder::{built_pages, built_plugins};
+use np_script_line_laws::{canonical_pages_are_in_order, canonical_plugins_are_in_order};
+use np_script_text_laws::one_refusal;
 use np_values::Side;
 use std::alloc::Global;
 
 /// Reads a page script. What it says owns its texts and contents; the bytes are only lent. (This project's
 /// own.)
 pub fn parse_page(alloc: Global, bytes: &[u8]) -> Result<PageScript, ParseError>
-    // A page is read exactly as the grammar says, up to want of memory.
+    // A page is read exactly as the grammar says, unless memory runs out.
     ensures ok { IfOk result (λ page. IsPageScript bytes.now page) }
     ensures read { (page : PageValue) → IsPageScript bytes.now page → (result ≡ Ok page) ⊎ (result ≡ Err ParseError.NoMemory) }
 
@@ -41,7 +41,7 @@ pub fn parse_page(alloc: Global, bytes: &[u8]) -> Result<PageScript, ParseError>
 
 /// Reads a plug-in script. What it says owns its texts; the bytes are only lent. (This project's own.)
 pub fn parse_plugin(alloc: Global, bytes: &[u8]) -> Result<PluginScript, ParseError>
-    // A plug-in is read exactly as the grammar says, up to want of memory.
+    // A plug-in is read exactly as the grammar says, unless memory runs out.
     ensures ok { IfOk result (λ plugin. IsPluginScript bytes.now plugin) }
     ensures read { (plugin : PluginValue) → IsPluginScript bytes.now plugin → (result ≡ Ok plugin) ⊎ (result ≡ Err ParseError.NoMemory) }
 

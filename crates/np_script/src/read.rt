@@ -1,20 +1,20 @@
 //! One line of a script.
 ghost use Rattle.std.specs.Prelude.{◌≡◌, ◌∷◌, List, ℕ};
-ghost use Rattle.np_grammar.specs.Words.{words_of};
+ghost use Rattle.np_script_grammar.specs.Words.{words_of};
 ghost use Rattle.np_script.specs.Reading.{CanBuild, ReadsWords, HasRead, ReadsLine};
 
-use np_build::{Builder, built_goes_on};
-use np_grammar::ScriptKind;
-use np_order::{Order, OrderError};
-use np_text_laws::{lines_go_on, skipped_lines_go_on};
+use np_script_builder::{Builder, built_goes_on};
+use np_script_grammar::ScriptKind;
+use np_script_order::{Order, OrderError};
+use np_script_text_laws::{lines_go_on, skipped_lines_go_on};
+use np_script_words::{FieldError, form_at, is_plain_line, next_word, read_fields};
 use np_values::{NoMemory, Side};
-use np_words::{FieldError, form_at, is_plain_line, next_word, read_fields};
 use std::alloc::Global;
 
 /// Why a line isn't read.
 #[derive(Clone, Copy, Debug, PartialEq, Eq)]
 pub enum LineError {
-    /// No script goes on with it, for this.
+    /// No script continues with it, for this.
     Refused(ScriptKind),
     NoMemory,
 }

@@ -1,17 +1,17 @@
 //! All lines of a script.
 ghost use Rattle.std.specs.Prelude.{◌≡◌, ◌≤◌, length, true, false};
-ghost use Rattle.np_grammar.specs.Order.{at_first};
-ghost use Rattle.np_grammar_laws.specs.Laws.{last_place};
-ghost use Rattle.np_build.specs.Building.{at_start};
+ghost use Rattle.np_script_grammar.specs.Order.{at_first};
+ghost use Rattle.np_script_line_laws.specs.Laws.{last_place};
+ghost use Rattle.np_script_builder.specs.Building.{at_start};
 ghost use Rattle.np_script.specs.Parsing.{IsFresh, ReadsAll, ReadsScript};
 
 use crate::ParseError;
 use crate::lines::first_line;
 use crate::read::{LineError, read_line};
-use np_build::Builder;
-use np_grammar::{Place, ScriptError, ScriptKind};
-use np_order::Order;
-use np_text_laws::{one_say, refused_lines_end, texts_can_be_completed};
+use np_script_builder::Builder;
+use np_script_grammar::{Place, ScriptError, ScriptKind};
+use np_script_order::Order;
+use np_script_text_laws::{one_say, refused_lines_end, texts_can_be_completed};
 use np_values::Side;
 use std::alloc::Global;
 
@@ -50,10 +50,10 @@ fn read_lines(
     requires fresh { IsFresh reader.old }
     ensures all { ReadsAll side bytes.now reader.new result }
 {
-    np_build::built_pages();
-    np_build::built_plugins();
-    np_build::built_goes_on();
-    np_build::lines_in_order_are_built();
+    np_script_builder::built_pages();
+    np_script_builder::built_plugins();
+    np_script_builder::built_goes_on();
+    np_script_builder::lines_in_order_are_built();
     refused_lines_end();
     texts_can_be_completed();
     let mut left = bytes;
@@ -96,11 +96,11 @@ pub fn read_script(
     requires fresh { IsFresh reader.old }
     ensures script { ReadsScript side bytes.now reader.new result }
 {
-    np_build::built_pages();
-    np_build::built_plugins();
-    np_build::lines_in_order_are_built();
-    np_build::pages_are_built();
-    np_build::plugins_are_built();
+    np_script_builder::built_pages();
+    np_script_builder::built_plugins();
+    np_script_builder::lines_in_order_are_built();
+    np_script_builder::pages_are_built();
+    np_script_builder::plugins_are_built();
     texts_can_be_completed();
     one_say();
     if bytes.len() > MAX_SCRIPT_BYTES {

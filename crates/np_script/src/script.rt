@@ -1,4 +1,4 @@
-use np_grammar::{Page, Plugin};
+use np_script_grammar::{Page, Plugin};
 use std::marker::Model;
 
 /// A page that keeps every rule of the grammar but the size, seen as the page.
@@ -8,8 +8,8 @@ pub struct PageScript {
 }
 
 impl Model for PageScript {
-    ghost use Rattle.np_grammar.specs.declared.page.Page.{Page};
-    ghost use Rattle.np_grammar.specs.Grammar.{KeepsPageRules};
+    ghost use Rattle.np_script_grammar.specs.declared.page.Page.{Page};
+    ghost use Rattle.np_script_grammar.specs.Grammar.{KeepsPageRules};
 
     ghost Value = { Page };
 
@@ -20,9 +20,9 @@ impl Model for PageScript {
 
 impl PageScript {
     ghost use Rattle.std.specs.Prelude.{◌≡◌};
-    ghost use Rattle.np_grammar.specs.Grammar.{KeepsPageRules};
+    ghost use Rattle.np_script_grammar.specs.Grammar.{KeepsPageRules};
 
-    /// A page that keeps the rules.
+    /// Keeps what the reader read. The caller has seen that it keeps the rules.
     pub fn new(page: Page) -> PageScript
         requires rules { KeepsPageRules page }
         ensures same { result ≡ page }
@@ -30,7 +30,7 @@ impl PageScript {
         PageScript { page }
     }
 
-    /// The page.
+    /// Lends the page.
     pub fn page(&self) -> &Page
         ensures same { result.now ≡ self.now }
         ensures rules { KeepsPageRules self.now }
@@ -46,8 +46,8 @@ pub struct PluginScript {
 }
 
 impl Model for PluginScript {
-    ghost use Rattle.np_grammar.specs.declared.plugin.Plugin.{Plugin};
-    ghost use Rattle.np_grammar.specs.Grammar.{KeepsPluginRules};
+    ghost use Rattle.np_script_grammar.specs.declared.plugin.Plugin.{Plugin};
+    ghost use Rattle.np_script_grammar.specs.Grammar.{KeepsPluginRules};
 
     ghost Value = { Plugin };
 
@@ -58,7 +58,7 @@ impl Model for PluginScript {
 
 impl PluginScript {
     ghost use Rattle.std.specs.Prelude.{◌≡◌};
-    ghost use Rattle.np_grammar.specs.Grammar.{KeepsPluginRules};
+    ghost use Rattle.np_script_grammar.specs.Grammar.{KeepsPluginRules};
 
     /// A plug-in that keeps the rules.
     pub fn new(plugin: Plugin) -> PluginScript
@@ -68,7 +68,7 @@ impl PluginScript {
         PluginScript { plugin }
     }
 
-    /// The plug-in.
+    /// Lends the plug-in.
     pub fn plugin(&self) -> &Plugin
         ensures same { result.now ≡ self.now }
         ensures rules { KeepsPluginRules self.now }

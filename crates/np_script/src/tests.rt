@@ -44,11 +44,6 @@ fn page_fails(alloc: Global, script: &[u8], line: u32, kind: ScriptKind) -> Resu
     Ok(out.is_empty() && error == ScriptError { line, kind })
 }
 
-fn plugin_fails(alloc: Global, script: &[u8], line: u32, kind: ScriptKind) -> Result<bool, Fail> {
-    let (out, error) = plugin(alloc, script)?;
-    Ok(out.is_empty() && error == ScriptError { line, kind })
-}
-
 #[test]
 fn pages_are_read_and_printed(rt: HostRuntime) -> Result<(), Fail> {
     let alloc = rt.alloc();
@@ -131,107 +126,6 @@ fn refusals_of_pages(rt: HostRuntime) -> Result<(), Fail> {
         )?
     );
     assert!(rt; page_fails(alloc, b"page 0 27\ndo\nexit 1", 3, ScriptKind::Word)?);
-    Ok(())
-}
-
-#[test]
-fn refusals_of_plugins(rt: HostRuntime) -> Result<(), Fail> {
-    let alloc = rt.alloc();
-    assert!(rt;
-        plugin_fails(
-            alloc,
-            b"plugin 0 27\ntask \"a\"\nend\ntask \"a\"",
-            4,
-            ScriptKind::Twice
-        )?
-    );
-    assert!(rt;
-        plugin_fails(
-            alloc,
-            b"plugin 0 27\nhandler new\nend\nhandler new",
-            4,
-            ScriptKind::Twice
-        )?
-    );
-    assert!(rt;
-        plugin_fails(
-            alloc,
-            b"plugin 0 27\nclass \"C\" 1\ndata\ndata",
-            4,
-            ScriptKind::Twice
-        )?
-    );
-    assert!(rt;
-        plugin_fails(
-            alloc,
-            b"plugin 0 27\nclass \"C\" 1\nmethod 1\nend\nmethod \"1\"\nend\nmethod 1",
-            7,
-            ScriptKind::Twice
-        )?
-    );
-    assert!(rt;
-        plugin_fails(
-            alloc,
-            b"plugin 0 27\nhandler new\ndestroy $0 1",
-            3,
-            ScriptKind::Word
-        )?
-    );
-    assert!(rt; plugin_fails(alloc, b"plugin 0 27\nhandler draw", 2, ScriptKind::Form)?);
-    assert!(rt;
-        plugin_fails(
-            alloc,
-            b"plugin 0 27\nhandler new\nexit 64",
-            3,
-            ScriptKind::Form
-        )?
-    );
-    assert!(rt;
-        plugin_fails(
-            alloc,
-            b"plugin 0 27\nhandler new\nreqread $0 1",
-            3,
-            ScriptKind::Form
-        )?
-    );
-    assert!(rt;
-        plugin_fails(
-            alloc,
-            b"plugin 0 27\nhandler new\nreqread $0 1 0 1 0 1 0 1 0 1 0 1",
-            3,
-            ScriptKind::Limit
-        )?
-    );
-    assert!(rt; plugin_fails(alloc, b"plugin 0 27\nhandler new\n", 3, ScriptKind::End)?);
-    assert!(rt; plugin_fails(alloc, b"plugin 0 27\ndo", 2, ScriptKind::Word)?);
-    Ok(())
-}
-
-/// A page whose one command sets a text of so many letters.
-fn long_text(alloc: Global, letters: usize) -> Result<Vec<u8>, Fail> {
-    let mut script = Vec::new(alloc);
-    script.extend_from_slice(b"page 0 27\ndo\nset $0 \"")?;
-    for _ in 0..letters {
-        script.push(b'a')?;
-    }
-    script.extend_from_slice(b"\"\n")?;
-    Ok(script)
-}
-
-#[test]
-fn limits_of_texts_and_sizes(rt: HostRuntime) -> Result<(), Fail> {
-    let alloc = rt.alloc();
-    let script = long_text(alloc, 2048)?;
-    let (out, _) = page(alloc, &script)?;
-    assert!(rt; out == script);
-    assert!(rt; page_fails(alloc, &long_text(alloc, 2049)?, 3, ScriptKind::Limit)?);
-    let mut script = Vec::new(alloc);
-    for _ in 0..1_048_576 {
-        script.push(b' ')?;
-    }
-    assert!(rt; page_fails(alloc, &script, 2, ScriptKind::End)?);
-    script.push(b' ')?;
-    assert!(rt; page_fails(alloc, &script, 0, ScriptKind::Size)?);
     Ok(())
 }
 

@@ -1,8 +1,8 @@
 -- The last lines of a listing.
 use Rattle.std.proofs.Common.{◌≡◌, ◌≢◌, ◌<◌, ℕ, zero, suc, List, [], ◌∷◌, ◌++◌, length, take, Option, inl, inr, ap, sym, ◌∙◌, refl, subst, append_assoc, arith}
 use Rattle.std.specs.Prelude.{decimal, codes}
-use Rattle.np_ending.specs.Causes.{Adds, AddsPart}
-use Rattle.np_ending.proofs.EndLines.{some_behind, end_line_is_some, refused_line_is_some}
+use Rattle.np_end_stops.specs.Causes.{Adds, AddsPart}
+use Rattle.np_end_lines.proofs.EndLines.{some_behind, end_line_is_some, refused_line_is_some}
 use Rattle.np_model.specs.Journal.{end_line}
 use Rattle.np_show.specs.declared.outcome.Outcome.{Outcome}
 use Rattle.np_show.specs.declared.outcome.Outcome.TheVariants.{Ended, Refused, FileFailed}

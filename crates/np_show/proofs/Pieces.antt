@@ -6,13 +6,14 @@ use Rattle.np_message.specs.declared.wire.WireError.{WireError}
 use Rattle.np_message.specs.Decoding.{Partial, Bad, front}
 use Rattle.np_model.specs.Refused.{refusal_of}
 use Rattle.np_wire.specs.Feed.{Fed}
-use Rattle.np_ending.specs.Causes.{Adds}
+use Rattle.np_end_stops.specs.Causes.{Adds}
 use Rattle.np_show.specs.declared.outcome.Outcome.TheVariants as outcomes
-use Rattle.np_show.specs.Listing.{Tail, Left, Refused, Listing, behind, listing, file_listing, tail_of, too_long}
+use Rattle.np_show.specs.Listing.{Tail, Left, Refused, Listing, behind, listing, file_listing, tail_of}
 use Rattle.np_show.specs.Taking.{Lists, TakesLines, PrintsPiece, PrintsPieceFront, AddsFront, ComesTo, StandsAt}
 use Rattle.np_show.proofs.Fronts.{bad-more}
 use Rattle.np_show.proofs.Listings.{partial-listing, bad-listing, lists-same, lists-then}
 use Rattle.np_show.proofs.Printing.{adds-nothing, adds-then, adds-then-front, front-adds}
+use Rattle.np_model.specs.Alone.{too_many_bytes}
 
 -- so many bytes of the content were read, and the lines of their whole messages printed
 pub record Stands (content : List ℕ) (total : ℕ) (fed : Fed) (taken0 taken1 : Option (List ℕ)) : Type 0 where
@@ -79,7 +80,7 @@ adds-all content t printed taken0 taken1 is adds =
 pub short-tail : (size n : ℕ) → size < 2 ^ 40 → tail_of size (Left n) ≡ Left n
 short-tail size n short = let e : nat_lt size (2 ^ 40) ≡ true = grind (arith, short) in rw e refl
 
-pub long-tail : (size n : ℕ) → 2 ^ 40 ≤ size → tail_of size (Left n) ≡ Refused too_long
+pub long-tail : (size n : ℕ) → 2 ^ 40 ≤ size → tail_of size (Left n) ≡ Refused too_many_bytes
 long-tail size n long = let e : nat_lt size (2 ^ 40) ≡ false = grind (arith, long) in rw e refl
 
 waiting : (content : List ℕ) (total : ℕ) (fed : Fed) (taken0 taken1 : Option (List ℕ)) (s : Stands content total fed taken0 taken1) → front fed.consumed fed.left ≡ Partial → take (2 ^ 40) content ≡ take total content
@@ -98,7 +99,7 @@ file-ended content total fed taken0 taken1 s waits count low end =
       adds-all content (Left (length fed.left)) s.printed taken0 taken1 is s.adds,
     )
 
-pub file-too-long : (content : List ℕ) (total : ℕ) (fed : Fed) (taken0 taken1 : Option (List ℕ)) → Stands content total fed taken0 taken1 → front fed.consumed fed.left ≡ Partial → total ≡ 2 ^ 40 → ComesTo content taken0 taken1 (outcomes.Refused too_long)
+pub file-too-long : (content : List ℕ) (total : ℕ) (fed : Fed) (taken0 taken1 : Option (List ℕ)) → Stands content total fed taken0 taken1 → front fed.consumed fed.left ≡ Partial → total ≡ 2 ^ 40 → ComesTo content taken0 taken1 (outcomes.Refused too_many_bytes)
 file-too-long content total fed taken0 taken1 s waits limit =
     let is = waiting content total fed taken0 taken1 s waits (ap (λ (n : ℕ). take n content) (sym limit)) in
     let w = s.within in (

@@ -1,7 +1,7 @@
 -- What a sink took.
 use Rattle.std.proofs.Common.{◌≡◌, ◌<◌, ℕ, List, [], ◌++◌, length, Option, Some, ap, sym, ◌∙◌, refl, append_assoc, append-nil, arith}
 use Rattle.std.proofs.lemmas.List.{length-append}
-use Rattle.np_ending.specs.Causes.{Adds, AddsPart}
+use Rattle.np_end_stops.specs.Causes.{Adds, AddsPart}
 use Rattle.np_show.specs.Taking.{AddsFront}
 
 pub adds-nothing : (taken : Option (List ℕ)) → Adds taken taken []

@@ -7,7 +7,7 @@ use Rattle.np_message.specs.Encoding.{encoding, encodings}
 use Rattle.np_message.specs.Rules.{KeepsFormat, IsTyped, AreMessages}
 use Rattle.np_message.specs.Decoding.{Whole, front}
 use Rattle.np_model.specs.Refused.{refusal_of}
-use Rattle.np_message_laws.specs.Laws.{WaitsExactly, RefusesEachFault}
+use Rattle.np_wire_laws.specs.Laws.{WaitsExactly, RefusesEachFault}
 use Rattle.np_show.specs.Listing.{Tail, Left, Refused, Listing, behind, listing, file_listing, tail_of, tail_lines, tail_status, message_line, message_lines, shown_text, shown_status}
 use Rattle.np_show.specs.Laws.{ShowsMessages, ShowsFault, ShowsTooLong}
 use Rattle.np_show.proofs.Listings.{partial-listing, whole-listing, bad-listing, behind-behind}

@@ -2,10 +2,10 @@
 use Rattle.std.specs.Prelude.{ℕ, zero, suc, ◌+◌, ◌^◌, nat_lt, List, [], ◌∷◌, ◌++◌, length, take, decimal, codes, if◌then◌else◌}
 use Rattle.np_message.specs.Message.{Message}
 use Rattle.np_model.specs.declared.refusal.Refusal.{Refusal}
-use Rattle.np_model.specs.declared.refusal.Rule.TheVariants.{Bytes}
 use Rattle.np_message.specs.Encoding.{kind_of, depth_byte, body_of, encoding}
 use Rattle.np_message.specs.Decoding.{Front, Partial, Whole, Bad, front}
 use Rattle.np_model.specs.Refused.{refusal_of}
+use Rattle.np_model.specs.Alone.{too_many_bytes}
 use Rattle.np_model.specs.Journal.{end_line, refused_line}
 
 -- ---- lines
@@ -25,14 +25,14 @@ abbrev pub message_lines : ℕ → List Message → List ℕ
 message_lines at [] = []
 message_lines at (m ∷ messages) = message_line at m ++ message_lines (at + length (encoding m)) messages
 
--- the line of so many bytes of an unfinished message; none where there are none
+-- the line of this many bytes of an unfinished message; none where there are none
 abbrev pub rest_line : ℕ → List ℕ
 rest_line zero = []
 rest_line (suc n) = codes "rest " ++ decimal (suc n) ++ 10 ∷ []
 
 -- ---- the messages of bytes
 
--- what follows the whole messages: so many bytes of an unfinished one, or one that is refused
+-- what follows the whole messages: this many bytes of an unfinished one, or one that is refused
 pub data Tail : Type 0 where
   Left : ℕ → Tail
   Refused : Refusal → Tail
@@ -46,13 +46,13 @@ pub record Listing : Type 0 where
 abbrev pub behind : List ℕ → Listing → Listing
 behind lines listing = record { lines = lines ++ listing.lines; tail = listing.tail }
 
--- by what stands at the front of bytes that begin at this place; what is behind a message goes on so
+-- by what stands at the front of bytes that begin at this place; what is after a message continues so
 abbrev pub listing_of : (ℕ → List ℕ → Listing) → ℕ → List ℕ → Front → Listing
 listing_of onward at bytes Partial = record { lines = []; tail = Left (length bytes) }
 listing_of onward at bytes (Whole m rest) = behind (message_line at m) (onward (at + length (encoding m)) rest)
 listing_of onward at bytes (Bad e) = record { lines = []; tail = Refused (refusal_of e) }
 
--- of at most so many messages
+-- of at most this many messages
 abbrev pub listing_within : ℕ → ℕ → List ℕ → Listing
 listing_within zero at bytes = record { lines = []; tail = Left (length bytes) }
 listing_within (suc n) at bytes = listing_of (listing_within n) at bytes (front at bytes)
@@ -63,13 +63,9 @@ listing at bytes = listing_within (length bytes) at bytes
 
 -- ---- a file
 
--- 2^40 bytes are read, and another read is due
-abbrev pub too_long : Refusal
-too_long = record { at = 2 ^ 40; rule = Bytes; first = 2 ^ 40; second = 0 }
-
--- a file of 2^40 bytes or more is refused behind them, unless a message was
+-- a file of 2^40 bytes or more is refused after them, unless a message was
 abbrev pub tail_of : ℕ → Tail → Tail
-tail_of size (Left n) = if nat_lt size (2 ^ 40) then Left n else Refused too_long
+tail_of size (Left n) = if nat_lt size (2 ^ 40) then Left n else Refused too_many_bytes
 tail_of size (Refused r) = Refused r
 
 -- of the first 2^40 bytes

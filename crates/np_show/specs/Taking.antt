@@ -4,13 +4,13 @@ use Rattle.np_message.specs.declared.wire.WireError.{WireError}
 use Rattle.np_message.specs.Decoding.{Partial, Bad, front}
 use Rattle.np_model.specs.Journal.{end_line, refused_line}
 use Rattle.np_wire.specs.Feed.{Fed}
-use Rattle.np_ending.specs.Causes.{Adds}
+use Rattle.np_end_stops.specs.Causes.{Adds}
 use Rattle.np_show.specs.declared.outcome.Outcome.{Outcome}
 use Rattle.np_show.specs.declared.outcome.Outcome.TheVariants.{Ended, Refused, FileFailed}
 use Rattle.np_show.specs.Listing.{Left, behind, listing, file_listing, rest_line}
 use Rattle.np_show.specs.Listing as tails
 
--- whatever follows, the listing of the old bytes is that of the new ones behind these lines
+-- whatever follows, the listing of the old bytes is that of the new ones after these lines
 abbrev pub Lists : ℕ → List ℕ → List ℕ → ℕ → List ℕ → Type 0
 Lists old_at old lines new_at new = (more : List ℕ) → listing old_at (old ++ more) ≡ behind lines (listing new_at (new ++ more))
 
@@ -31,7 +31,7 @@ pub record PrintsPiece (piece : List ℕ) (old new : Fed) (taken0 taken1 : Optio
   pub adds : Adds taken0 taken1 added
   pub lists : Lists old.consumed (old.left ++ piece) added new.consumed new.left
 
--- where the sink tells what it took, it took bytes with which these begin
+-- for a sink that records what it took, it took bytes with which these begin
 abbrev pub AddsFront : Option (List ℕ) → Option (List ℕ) → List ℕ → Type 0
 AddsFront taken0 taken1 bytes = (t : List ℕ) → taken0 ≡ Some t → (x : List ℕ) × (y : List ℕ) × (bytes ≡ x ++ y) × (taken1 ≡ Some (t ++ x))
 

@@ -5,7 +5,7 @@ ghost use Rattle.np_message.specs.Message.{Message};
 ghost use Rattle.np_message.specs.declared.wire.WireError.{WireError};
 ghost use Rattle.np_show.specs.Laws.{ShowsMessages, ShowsFault, ShowsTooLong};
 
-use np_message_laws::{encoded_is_read_again, fault_is_first, partial_is_cut_short};
+use np_wire_laws::{encoded_is_read_again, fault_is_first, partial_is_cut_short};
 
 /// A file of messages is shown by a line for each of them.
 pub fn messages_are_shown()
@@ -15,7 +15,7 @@ pub fn messages_are_shown()
     partial_is_cut_short();
 }
 
-/// A file is refused for the first fault behind its messages.
+/// A file is refused for the first fault after its messages.
 pub fn faults_are_shown()
     ensures law { (content : List ℕ) (messages : List Message) (rest : List ℕ) (e : WireError) → ShowsFault content messages rest e }
 {

@@ -40,7 +40,7 @@ fn list_message(out: &mut Vec<u8>, at: u64, message: Message, size: u64) -> Resu
     push_line(out, at, &message, size)
 }
 
-/// Takes the whole messages off the feed, and appends their lines; the fault of the one behind them, if it
+/// Takes the whole messages off the feed, and appends their lines; the fault of the one after them, if it
 /// has one.
 pub fn take_lines(feed: &mut Feed, lines: &mut Vec<u8>) -> Result<Option<WireError>, NoMemory>
     ensures taken { OnOk result (TakesLines feed.old feed.new lines.old.items lines.new.items) }

@@ -1,25 +1,22 @@
 //! A file is read piece by piece, and the lines of its messages are printed.
 
-ghost use Rattle.std.specs.Prelude.{◌≡◌, ◌+◌, ◌<◌, ◌^◌, [], length, OnOk, OnErr, IfOk, Some};
+ghost use Rattle.std.specs.Prelude.{◌≡◌, ◌+◌, ◌<◌, ◌^◌, [], length, OnOk, OnErr, IfOk, Some, ◌⊎◌};
 ghost use Rattle.np_ports.specs.Causes.{Rose};
 ghost use Rattle.np_ports.specs.Files.{Contents};
-ghost use Rattle.np_ending.specs.Causes.{SinkCause};
+ghost use Rattle.np_end_stops.specs.Causes.{SinkCause, counted_output};
 ghost use Rattle.np_show.specs.Listing.{file_listing};
 ghost use Rattle.np_show.specs.Show.{KeepsFiles, NotesReadOnly};
 ghost use Rattle.np_show.specs.Taking.{PrintsPiece, PrintsPieceFront, StandsAt, AddsFront, ComesTo, FailedOnly};
+ghost use Rattle.np_show.specs.declared.outcome.Outcome.TheVariants.{FileFailed};
 
 use crate::lines::take_lines;
 use crate::outcome::Outcome;
-use np_ending::Stop;
+use np_end_stops::Stop;
 use np_message::WireError;
-use np_model::{Refusal, Rule};
-use np_ports::{Files, PortError, Sink};
-use np_transfer::print_all;
+use np_model::{BYTE_LIMIT, Refusal, TOO_MANY_BYTES};
+use np_ports::{Files, PortError, Sink, print_all};
 use np_wire::Feed;
 use std::alloc::Global;
-
-/// As many bytes of a file are read at most.
-const LIMIT: u64 = 1_099_511_627_776;
 
 /// Gives a piece of the file to the feed, and prints the lines of the messages that are whole then.
 fn show_piece<O: Sink>(
@@ -34,6 +31,7 @@ fn show_piece<O: Sink>(
     ensures stands { IfOk result (λ fault. StandsAt feed.new fault) }
     ensures total { OnOk result (feed.new.consumed + length feed.new.left ≡ feed.old.consumed + length feed.old.left + length piece.now) }
     ensures sink { SinkCause (O.faults out.old) (O.faults out.new) result }
+    ensures sink_count { O.faults out.new ≡ counted_output (O.faults out.old) result }
 {
     feed.push(piece)?;
     lines.clear();
@@ -52,7 +50,9 @@ pub fn show_messages<F: Files, O: Sink>(
     ensures comes { IfOk result (λ outcome. (f : Contents) → F.contents files.old ≡ Some f → ComesTo (f name.now) (O.taken out.old) (O.taken out.new) outcome) }
     ensures front { OnErr result ((f : Contents) → F.contents files.old ≡ Some f → AddsFront (O.taken out.old) (O.taken out.new) (file_listing (f name.now)).lines) }
     ensures file { IfOk result (λ outcome. FailedOnly outcome (Rose (F.faults files.old) (F.faults files.new))) }
+    ensures file_only { IfOk result (λ outcome. (outcome ≡ FileFailed) ⊎ (F.faults files.new ≡ F.faults files.old)) }
     ensures sink { SinkCause (O.faults out.old) (O.faults out.new) result }
+    ensures sink_count { O.faults out.new ≡ counted_output (O.faults out.old) result }
     ensures files { KeepsFiles (F.contents files.old) (F.contents files.new) }
     ensures failed_calls { NotesReadOnly name.now (F.failed_calls files.old) (F.failed_calls files.new) }
 {
@@ -60,8 +60,8 @@ pub fn show_messages<F: Files, O: Sink>(
     let mut lines = Vec::new(alloc);
     let mut buf = [0u8; 4096];
     let mut total = 0;
-    while total < LIMIT {
-        let room = (LIMIT - total).min(4096) as usize;
+    while total < BYTE_LIMIT {
+        let room = (BYTE_LIMIT - total).min(4096) as usize;
         let n = match files.read(name, total, &mut buf[..room]) {
             Ok(n) => n,
             Err(PortError::Failed) => return Ok(Outcome::FileFailed),
@@ -75,10 +75,5 @@ pub fn show_messages<F: Files, O: Sink>(
         }
         total += n as u64;
     }
-    Ok(Outcome::Refused(Refusal {
-        at: LIMIT,
-        rule: Rule::Bytes,
-        first: LIMIT,
-        second: 0,
-    }))
+    Ok(Outcome::Refused(TOO_MANY_BYTES))
 }

@@ -1,5 +1,5 @@
 use super::*;
-use np_ending::Stop;
+use np_end_stops::Stop;
 use np_ports::{MemFiles, MemSink, SureFiles, SureSink};
 use std::alloc::Global;
 use std::test::*;
@@ -66,7 +66,7 @@ fn worked_examples(rt: HostRuntime) -> Result<(), Fail> {
     Ok(())
 }
 
-/// A file of so many messages of nine bytes each.
+/// A file of this many messages of nine bytes each.
 fn codes(alloc: Global, count: usize) -> Result<Vec<(String, Vec<u8>)>, Fail> {
     let mut content = Vec::new(alloc);
     for _ in 0..count {

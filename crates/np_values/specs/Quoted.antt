@@ -11,7 +11,7 @@ is_plain b = nat_le 32 b && not (b == 127)
 abbrev pub hex_byte : ℕ → List ℕ
 hex_byte b = digit_char (b / 16) ∷ digit_char (b % 16) ∷ []
 
--- how a byte stands in a quoted text: as itself, behind a backslash, or as \xHH in lower case
+-- how a byte stands in a quoted text: as itself, after a backslash, or as \xHH in lower case
 abbrev pub quoted_byte : ℕ → List ℕ
 quoted_byte b =
     if b == 34 || b == 92 then 92 ∷ b ∷ []

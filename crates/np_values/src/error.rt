@@ -22,7 +22,7 @@ pub enum NpError {
 }
 
 impl NpError {
-    /// The number of the header.
+    /// The number that npapi.h gives the error, 0 to 13.
     pub fn code(self) -> u16
         ensures value { result ≡ code_of self }
         ensures range { result < 14 }
@@ -45,7 +45,8 @@ impl NpError {
         }
     }
 
-    /// The error of a number; `None` for one that the header doesn't give to a plug-in's calls.
+    /// The error with this number; `None` above 13, for numbers that no call between host and plug-in
+    /// answers.
     pub fn from_code(code: u16) -> Option<NpError>
         ensures value { result ≡ error_of code }
         ensures inverse { IfSome result (λ error. code_of error ≡ code) }

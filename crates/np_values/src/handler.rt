@@ -37,7 +37,7 @@ const HANDLERS: [Handler; 9] = [
 ];
 
 impl Handler {
-    /// Its word in scripts and journals. (This project's own.)
+    /// The handler's word in scripts and journals, such as `new` or `urlnotify`. (This project's own.)
     pub fn word(self) -> &'static str
         ensures value { result.now ≡ handler_word self }
     {
@@ -54,7 +54,7 @@ impl Handler {
         }
     }
 
-    /// The handler of a word; `None` for bytes that are no handler's word.
+    /// The handler with this word; `None` for all other bytes.
     pub fn from_word(word: &[u8]) -> Option<Handler>
         ensures value { result ≡ handler_of word.now }
         ensures inverse { IfSome result (λ handler. handler_word handler ≡ word.now) }

@@ -1,16 +1,16 @@
 use crate::{Name, Range, Seq, Text, Value};
 
-/// A list of bytes.
+/// Bytes without further meaning: the content of a stream, or of one write.
 pub type Bytes = Seq<u8>;
 
-/// A list of names.
+/// Names of objects. The owner of the list owns no reference to them.
 pub type NameList = Seq<Name>;
 
-/// A list of ranges of bytes.
+/// The byte ranges of one request, 1 to 4 of them. (npapi.h, NPByteRange.)
 pub type Ranges = Seq<Range>;
 
-/// A list of texts.
+/// Texts in their order: attributes of an instance, a name and its value in turn.
 pub type Texts = Seq<Text>;
 
-/// A list of values.
+/// Values in their order, such as the arguments of a call, at most 8.
 pub type Values = Seq<Value>;

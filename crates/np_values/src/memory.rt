@@ -1,7 +1,7 @@
 use std::alloc::{AllocError, AllocFailed};
 use thiserror::Error;
 
-/// Want of memory. It has no further cause, and is merged with no other error.
+/// Memory ran out. The call changed nothing unless it says otherwise, and it may be tried again.
 #[derive(Clone, Copy, Debug, PartialEq, Eq, Error)]
 #[error("NoMemory")]
 pub struct NoMemory;

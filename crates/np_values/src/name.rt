@@ -21,7 +21,8 @@ pub struct Name {
 }
 
 impl Name {
-    /// Whether it stands before the other name in the order of names.
+    /// Compares two names in their one order: by side, the page first, then by instance, then by serial.
+    /// Lists of releases are sorted by it.
     pub fn before(self, other: Name) -> bool
         ensures value { result ≡ is_before self other }
     {

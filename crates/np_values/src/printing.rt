@@ -21,7 +21,7 @@ fn hex_digit(digit: u8) -> u8
     }
 }
 
-/// Appends a text.
+/// Appends a text as it is, without quotes or escapes. An `Err` means that memory ran out.
 pub fn push_str(out: &mut Vec<u8>, text: &str) -> Result<(), NoMemory>
     ensures ok { OnOk result (out.new.items ≡ out.old.items ++ text.now) }
     ensures err { OnErr result (out.new.items ≡ out.old.items) }
@@ -31,6 +31,7 @@ pub fn push_str(out: &mut Vec<u8>, text: &str) -> Result<(), NoMemory>
 }
 
 // The bytes in hexadecimal digits. Where memory runs out, a part of them may stand.
+/// Appends two lower-case digits in base 16 for each byte. An `Err` means that memory ran out.
 pub fn push_hex(out: &mut Vec<u8>, bytes: &[u8]) -> Result<(), NoMemory>
     ensures ok { OnOk result (out.new.items ≡ out.old.items ++ flat_map hex_byte bytes.now) }
     ensures begins { (rest : List ℕ) × (out.new.items ≡ out.old.items ++ rest) }
@@ -79,7 +80,8 @@ fn push_between_quotes(out: &mut Vec<u8>, text: &[u8]) -> Result<(), NoMemory>
     Ok(())
 }
 
-/// Appends the quoted text that says these bytes.
+/// Appends these bytes as a quoted text: `\"` and `\\` are escaped, bytes below 32 and 127 are `\x` and two
+/// digits. An `Err` means that memory ran out. (This project's own.)
 pub fn push_quoted(out: &mut Vec<u8>, text: &[u8]) -> Result<(), NoMemory>
     ensures ok { OnOk result (out.new.items ≡ out.old.items ++ quoted text.now) }
     ensures err { OnErr result (out.new.items ≡ out.old.items) }
@@ -94,7 +96,7 @@ pub fn push_quoted(out: &mut Vec<u8>, text: &[u8]) -> Result<(), NoMemory>
     }
 }
 
-/// Appends a number in base 10.
+/// Appends a number in base 10, without leading zeros. An `Err` means that memory ran out.
 pub fn push_number(out: &mut Vec<u8>, number: u64) -> Result<(), NoMemory>
     ensures ok { OnOk result (out.new.items ≡ out.old.items ++ decimal number) }
     ensures err { OnErr result (out.new.items ≡ out.old.items) }
@@ -104,7 +106,7 @@ pub fn push_number(out: &mut Vec<u8>, number: u64) -> Result<(), NoMemory>
     Ok(())
 }
 
-/// Appends a number in base 10, with a `-` where it is below zero.
+/// Appends a number in base 10, with a `-` where it is below zero. An `Err` means that memory ran out.
 pub fn push_int(out: &mut Vec<u8>, number: i32) -> Result<(), NoMemory>
     ensures ok { OnOk result (out.new.items ≡ out.old.items ++ signed_decimal number) }
     ensures err { OnErr result (out.new.items ≡ out.old.items) }
@@ -131,7 +133,8 @@ fn push_name_parts(out: &mut Vec<u8>, name: Name) -> Result<(), NoMemory>
     push_number(out, u64::from(name.serial))
 }
 
-/// Appends the printed form of a name.
+/// Appends a name as scripts and journals print it: `page:I:S` or `plug:I:S`. An `Err` means that memory ran
+/// out. (This project's own.)
 pub fn push_name(out: &mut Vec<u8>, name: Name) -> Result<(), NoMemory>
     ensures ok { OnOk result (out.new.items ≡ out.old.items ++ printed_name name) }
     ensures err { OnErr result (out.new.items ≡ out.old.items) }

@@ -10,7 +10,7 @@ pub enum NpReason {
 }
 
 impl NpReason {
-    /// The number of the header.
+    /// The number that npapi.h gives the reason, 0 to 2.
     pub fn code(self) -> u16
         ensures value { result ≡ reason_code self }
         ensures range { result < 3 }
@@ -22,7 +22,7 @@ impl NpReason {
         }
     }
 
-    /// The reason of a number; `None` for one that the header doesn't have.
+    /// The reason with this number; `None` above 2.
     pub fn from_code(code: u16) -> Option<NpReason>
         ensures value { result ≡ reason_of code }
         ensures inverse { IfSome result (λ reason. reason_code reason ≡ code) }

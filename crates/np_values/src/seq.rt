@@ -28,21 +28,21 @@ impl<T> Seq<T> {
         }
     }
 
-    /// The items in their order.
+    /// Lends the items, the first one first.
     pub fn as_slice(&self) -> &[T]
         ensures same { result.now ≡ self.now }
     {
         self.items.as_slice()
     }
 
-    /// How many items it has.
+    /// The number of items.
     pub fn len(&self) -> usize
         ensures value { result ≡ length self.now }
     {
         self.items.len()
     }
 
-    /// Whether it has no item.
+    /// Whether there are no items.
     pub fn is_empty(&self) -> bool
         ensures value { IsTrue result ↔ (self.now ≡ []) }
     {
@@ -51,7 +51,7 @@ impl<T> Seq<T> {
 }
 
 impl<T: Drop> Seq<T> {
-    /// Puts an item at the end; one that finds no room is dropped.
+    /// Appends an item, which the list then owns. An `Err` means that memory ran out; the item is dropped.
     pub fn push(&mut self, item: T) -> Result<(), NoMemory>
         ensures ok { OnOk result (self.new ≡ self.old ++ item ∷ []) }
         ensures err { OnErr result (self.new ≡ self.old) }

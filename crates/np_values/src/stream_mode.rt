@@ -15,7 +15,7 @@ pub enum StreamMode {
 }
 
 impl StreamMode {
-    /// The number of the header.
+    /// The number that npapi.h gives the mode, 1 to 4.
     pub fn code(self) -> u16
         ensures value { result ≡ mode_code self }
         ensures range { (1 ≤ result) × (result ≤ 4) }
@@ -28,7 +28,7 @@ impl StreamMode {
         }
     }
 
-    /// The mode of a number; `None` for one that the header doesn't have.
+    /// The mode with this number; `None` for all others.
     pub fn from_code(code: u16) -> Option<StreamMode>
         ensures value { result ≡ mode_of code }
         ensures inverse { IfSome result (λ mode. mode_code mode ≡ code) }

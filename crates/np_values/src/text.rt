@@ -26,7 +26,7 @@ impl Model for Text {
     ghost invariant = { λ t. is_text (string_bytes t.text) ≡ true };
 }
 
-/// Why bytes are no text, or that memory ran out.
+/// Why bytes weren't made into a text.
 #[derive(Clone, Copy, Debug, PartialEq, Eq, Error)]
 pub enum TextError {
     /// There are more than 2,048 bytes.
@@ -51,7 +51,8 @@ impl From<AllocError> for TextError {
 }
 
 impl Text {
-    /// The text of these bytes, copied.
+    /// Copies bytes into a text. `TooLong` means more than 2,048 bytes, `NotUtf8` that they are short enough
+    /// but not UTF-8, `NoMemory` that memory ran out.
     #[tactic(auto, using(crate::proofs::Texts::is_valid, crate::proofs::Texts::is_whole, crate::proofs::Texts::is_broken))]
     pub fn new(alloc: Global, bytes: &[u8]) -> Result<Text, TextError>
         ensures value { IfOk result (λ t. t ≡ bytes.now) }
@@ -73,7 +74,7 @@ impl Text {
         }
     }
 
-    /// Its bytes.
+    /// Lends the text, at most 2,048 bytes.
     #[tactic(auto, using(crate::proofs::Texts::is_short))]
     pub fn as_str(&self) -> &str
         ensures same { result.now ≡ self.now }
@@ -83,7 +84,7 @@ impl Text {
         self.text.as_str()
     }
 
-    /// An equal text of its own.
+    /// An equal text with bytes of its own. An `Err` means that memory ran out.
     #[tactic(auto, using(crate::proofs::Texts::is_short))]
     pub fn try_copy(&self, alloc: Global) -> Result<Text, NoMemory>
         ensures value { IfOk result (λ t. t ≡ self.now) }

@@ -3,7 +3,7 @@ ghost use Rattle.std.specs.Prelude.{◌≡◌, IfOk};
 use crate::NoMemory;
 use std::alloc::Global;
 
-/// What can be copied in as far as memory allows.
+/// A copy that may fail: for items of lists, whose copies allocate.
 pub trait TryCopy {
     /// An equal value of its own.
     fn try_copy(&self, alloc: Global) -> Result<Self, NoMemory>

@@ -20,7 +20,8 @@ pub enum Value {
 }
 
 impl Value {
-    /// An equal value of its own.
+    /// An equal value. A copied object names the same object; nobody counts a reference for it. An `Err`
+    /// means that memory ran out.
     pub fn try_copy(&self, alloc: Global) -> Result<Value, NoMemory>
         ensures value { IfOk result (λ copy. copy ≡ self.now) }
     {
@@ -35,7 +36,9 @@ impl Value {
         }
     }
 
-    /// Appends the printed form; an object's tells whether it is dead.
+    /// Appends the value as journals print it, such as `int 7` or `object page:1:2 dead`. `dead` says whether
+    /// the named object's instance is dead; it matters for objects only. An `Err` means that memory ran out;
+    /// `out` is then as it was. (This project's own.)
     pub fn print(&self, dead: bool, out: &mut Vec<u8>) -> Result<(), NoMemory>
         ensures ok { OnOk result (out.new.items ≡ out.old.items ++ printed dead self.now) }
         ensures err { OnErr result (out.new.items ≡ out.old.items) }

@@ -6,10 +6,10 @@ use Rattle.std.proofs.lemmas.Bool.{le-ltb, lt-ltb}
 use Rattle.std.proofs.lemmas.List.Elements.{All-from_get_or}
 use Rattle.np_message.specs.Message.{Message}
 use Rattle.np_message.specs.Decoding.{Front, Partial, Whole, front, front_sized}
-use Rattle.np_message_laws.specs.Laws.{ReadIsEncoded, RefusesOnlyFaults}
-use Rattle.np_decode.specs.declared.unread.Broken.{Broken}
-use Rattle.np_decode.specs.declared.unread.Broken.TheVariants as broken
-use Rattle.np_decode.specs.Reading.{WantsOnly, needs_memory}
+use Rattle.np_wire_laws.specs.Laws.{ReadIsEncoded, RefusesOnlyFaults}
+use Rattle.np_wire_decode.specs.declared.unread.Broken.{Broken}
+use Rattle.np_wire_decode.specs.declared.unread.Broken.TheVariants as broken
+use Rattle.np_wire_decode.specs.Reading.{WantsOnly, needs_memory}
 use Rattle.np_wire.specs.declared.error.FeedError.{FeedError}
 use Rattle.np_wire.specs.declared.error.FeedError.TheVariants.{Wire, NoMemory}
 use Rattle.np_wire.specs.Feed.{FrontIs, SizedIs, FrontGives, SizedGives, IsEncoded, RefusesFirstFault, WantsMemoryOnly, RefusedAs}

@@ -6,8 +6,8 @@ use Rattle.np_message.specs.Encoding.{encoding}
 use Rattle.np_message.specs.Rules.{KeepsFormat, IsTyped}
 use Rattle.np_message.specs.Decoding.{Front, Partial, Whole, Bad, front, front_sized}
 use Rattle.np_message.specs.Faults.{IsFirstFault}
-use Rattle.np_decode.specs.declared.unread.Broken.{Broken}
-use Rattle.np_decode.specs.declared.unread.Broken.TheVariants as broken
+use Rattle.np_wire_decode.specs.declared.unread.Broken.{Broken}
+use Rattle.np_wire_decode.specs.declared.unread.Broken.TheVariants as broken
 use Rattle.np_wire.specs.declared.error.FeedError.{FeedError}
 use Rattle.np_wire.specs.declared.error.FeedError.TheVariants.{Wire, NoMemory}
 
@@ -46,14 +46,14 @@ FrontIs seen bytes (Err NoMemory) = Unit {0}
 abbrev pub FrontGives : ℕ → List ℕ → Result (Option (Message × ℕ)) FeedError → Type 0
 FrontGives at bytes r = FrontIs (front at bytes) bytes r
 
--- as FrontIs, of the bytes behind the four of the length
+-- as FrontIs, of the bytes after the four of the length
 abbrev pub SizedIs : Front → List ℕ → Result (Option (Message × ℕ)) FeedError → Type 0
 SizedIs seen rest (Ok None) = seen ≡ Partial
 SizedIs seen rest (Ok (Some m)) = (4 ≤ m.1) × (seen ≡ Whole m.0 (drop (m.1 - 4) rest))
 SizedIs seen rest (Err (Wire e)) = seen ≡ Bad e
 SizedIs seen rest (Err NoMemory) = Unit {0}
 
--- the same for the bytes behind a length
+-- the same for the bytes after a length
 abbrev pub SizedGives : ℕ → ℕ → List ℕ → Result (Option (Message × ℕ)) FeedError → Type 0
 SizedGives at n rest r = SizedIs (front_sized at n rest) rest r
 

@@ -7,12 +7,12 @@ use np_message::WireError;
 use np_values::NoMemory;
 use std::alloc::{AllocError, AllocFailed};
 
-/// Why no message was given.
+/// Why `next` gave no message.
 #[derive(Clone, Copy, Debug, PartialEq, Eq)]
 pub enum FeedError {
     /// The bytes break the format. The feed stays at them and answers the same again.
     Wire(WireError),
-    /// Want of memory. The feed is as it was, and the call may be made again.
+    /// Out of memory. The feed is as it was, and the call may be made again.
     NoMemory,
 }
 

@@ -1,14 +1,14 @@
 //! The decoder of a stream: bytes in, whole messages out.
 
 ghost use Rattle.std.specs.Prelude.{◌≡◌, ◌+◌, ◌-◌, ◌<◌, ◌≤◌, ◌^◌, ◌++◌, [], true, drop, length, OnOk, OnErr, IfOk, IfSome};
-ghost use Rattle.np_decode.specs.Reading.{needs_memory};
+ghost use Rattle.np_wire_decode.specs.Reading.{needs_memory};
 ghost use Rattle.np_wire.specs.Feed.{Fed, NextGives, RefusesFirstFault, FrontGives, SizedGives, IsEncoded, WantsMemoryOnly, RefusedAs};
 
 use crate::FeedError;
-use np_decode::{Broken, decode_body};
 use np_message::{Message, WireError, WireKind};
-use np_message_laws::{fault_is_first, read_is_encoded};
 use np_values::NoMemory;
+use np_wire_decode::{Broken, decode_body};
+use np_wire_laws::{fault_is_first, read_is_encoded};
 use std::alloc::Global;
 use std::marker::Model;
 
@@ -34,7 +34,7 @@ impl Model for Feed {
 }
 
 impl Feed {
-    /// A feed without bytes. It takes no memory yet.
+    /// A feed without bytes. It allocates with the first push.
     pub fn new(alloc: Global) -> Feed
         ensures value { result ≡ record { consumed = 0; left = [] } }
     {
@@ -58,7 +58,7 @@ impl Feed {
     }
 
     /// The next message, or `None` while more bytes have to come. Bytes that break the format stay where
-    /// they are, so a later call gives the same error, or wants memory. Only messages with texts, bytes, values,
+    /// they are, so a later call gives the same error, or runs out of memory. Only messages with texts, bytes, values,
     /// lists or releases take memory.
     pub fn next(&mut self) -> Result<Option<Message>, FeedError>
         ensures exact { NextGives self.old self.new result }
@@ -76,7 +76,7 @@ impl Feed {
         }
     }
 
-    /// How many bytes the messages have that were given so far.
+    /// The number of bytes of all messages that `next` has given.
     pub fn consumed(&self) -> u64
         ensures value { result ≡ self.now.consumed }
     {
@@ -132,7 +132,7 @@ fn refused(at: u64, length: u64, broken: Broken) -> FeedError
     })
 }
 
-// As `front`, of the bytes behind the length.
+// As `front`, of the bytes after the length.
 fn sized(
     alloc: Global,
     at: u64,

@@ -6,7 +6,7 @@ use Rattle.np_message.specs.Message.{Message}
 use Rattle.np_message.specs.Encoding.{encoding, body_of}
 use Rattle.np_message.specs.Decoding.{front, Whole, Partial, Bad}
 use Rattle.np_wire.specs.Feed.{IsEncoded}
-use Rattle.np_message_laws.specs.Laws.{EncodedIsReadAgain, NoEncodingBeginsAnother, MessagesFit}
+use Rattle.np_wire_laws.specs.Laws.{EncodedIsReadAgain, NoEncodingBeginsAnother, MessagesFit}
 use Rattle.np_wire_speed.specs.Work.{IsOneMessage, HasFront}
 
 whole : EncodedIsReadAgain → (at : ℕ) (bytes : List ℕ) (one : IsOneMessage bytes) → front at bytes ≡ Whole one.0 []

@@ -9,10 +9,10 @@ use Rattle.np_wire.specs.Feed.{IsEncoded}
 abbrev pub IsOneMessage : List ℕ → Type 0
 IsOneMessage bytes = (m : Message) × KeepsFormat m × IsTyped m × (bytes ≡ encoding m)
 
--- this message and the bytes behind it
+-- this message and the bytes after it
 abbrev pub HasFront : Message → List ℕ → Type 0
 HasFront m bytes = (rest : List ℕ) × IsEncoded m bytes rest
 
--- a message and the bytes behind it
+-- a message and the bytes after it
 abbrev pub BeginsWithMessage : List ℕ → Type 0
 BeginsWithMessage bytes = (m : Message) × HasFront m bytes

@@ -1,5 +1,5 @@
 //! Measures the codec: encodes or decodes one message many times, or copies its bytes. It prints nothing; benchmarks/wire
-//! runs it and tells how long each took.
+//! runs it and reports how long each took.
 #![tactic(auto)]
 
 mod messages;
@@ -12,7 +12,7 @@ use std::alloc::Global;
 use std::process::ExitCode;
 use std::{env, io};
 
-/// The words behind the program's name.
+/// The words after the program's name.
 fn command_words(rt: &HostRuntime, alloc: Global) -> io::Result<Vec<String>> {
     let mut words = Vec::new(alloc);
     for word in env::args(rt)?.skip(1) {
@@ -30,7 +30,7 @@ fn message_bytes(alloc: Global, name: &str) -> Result<Option<Vec<u8>>, NoMemory>
     }
 }
 
-/// Does so many times what the words say, `encode`, `decode` or `copy`, with `small` or `largest`; the status is 2 where they say nothing else.
+/// Does that many times what the words say, `encode`, `decode` or `copy`, with `small` or `largest`; the status is 2 where they say nothing else.
 fn run(alloc: Global, words: &[String]) -> Result<u8, NoMemory> {
     let [what, name, times] = words else {
         return Ok(2);

@@ -11,7 +11,7 @@ use np_wire::{
 };
 use std::alloc::Global;
 
-/// Encodes a message so many times into the same room.
+/// Encodes a message that many times into the same room.
 fn encode_times(alloc: Global, message: &Message, times: u32) -> Result<Vec<u8>, NoMemory>
     ensures last { IfOk result (λ bytes. 0 < times → bytes.items ≡ encoding message.now) }
 {
@@ -51,8 +51,8 @@ fn front_message(alloc: Global, bytes: &[u8]) -> Result<Option<Message>, NoMemor
     }
 }
 
-/// Decodes the message once, and encodes it so many times into the same room. The status is 3 where the bytes aren't
-/// those of one message, but for bytes behind a message that is encoded no time.
+/// Decodes the message once, and encodes it that many times into the same room. The status is 3 where the bytes aren't
+/// those of one message, but for bytes after a message that is encoded no time.
 #[tactic(auto, using(crate::proofs::OneMessage::is_that_message))]
 pub fn encode_again(alloc: Global, bytes: &[u8], times: u32) -> Result<u8, NoMemory>
     ensures status { IfOk result (λ status. (status ≡ 0) ⊎ (status ≡ 3)) }
@@ -90,7 +90,7 @@ fn take_one(feed: &mut Feed, bytes: &[u8]) -> Result<bool, NoMemory>
     }
 }
 
-/// Gives the bytes so many times to one feed, and takes a message off each time. The status is 3 where none is there
+/// Gives the bytes that many times to one feed, and takes a message off each time. The status is 3 where none is there
 /// at one of these times, and of more than 65,536 bytes.
 #[tactic(auto, using(crate::proofs::OneMessage::is_short))]
 pub fn decode(alloc: Global, bytes: &[u8], times: u32) -> Result<u8, NoMemory>
@@ -111,7 +111,7 @@ pub fn decode(alloc: Global, bytes: &[u8], times: u32) -> Result<u8, NoMemory>
     Ok(0)
 }
 
-/// Copies the bytes so many times into the same room.
+/// Copies the bytes that many times into the same room.
 pub fn copy(alloc: Global, bytes: &[u8], times: u32) -> Result<u8, NoMemory>
     ensures status { IfOk result (λ status. status ≡ 0) }
 {

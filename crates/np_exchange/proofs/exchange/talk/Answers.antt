@@ -1,9 +1,9 @@
-use Rattle.std.proofs.Common.{Option, Some, None, subst, ◌∙◌, arith}
-use Rattle.np_ending.specs.declared.ending.Ending.{Ending}
-use Rattle.np_exchange.specs.Live.{Turned}
+use Rattle.std.proofs.Common.{◌≡◌, Option, Some, None, Ok, subst, ◌∙◌, arith}
+use Rattle.np_end_stops.specs.declared.ending.Ending.{Ending}
+use Rattle.np_exchange.specs.Live.{Turned, counted_turn, ended_turn}
 use Rattle.np_exchange.proofs.Sessions.{turned-then}
 use Rattle.np_exchange.proofs.Cuts.{turned-cut}
-use Rattle.np_ending.proofs.Stops.{on-stop}
+use Rattle.np_end_stops.proofs.Stops.{on-stop}
 use Rattle.np_exchange.proofs.exchange.talk.Goals as goal
 
 pub returns-in-Some-clause-talked : goal.returns-in-Some-clause-talked
@@ -17,9 +17,10 @@ loop-next-preserved g c = record {
       (subst (λ (x : Option Ending). Turned g.E.Endpoint.role_of (g.P.Peer.known c.loop-next.peer) (g.P.Peer.known c.turn.new.peer) (g.O.Sink.taken c.loop-next.out) (g.O.Sink.taken c.turn.new.out) (g.E.Endpoint.seen c.loop-next.end) (g.E.Endpoint.seen c.turn.new.end) x) c.in_default.is c.in_ok-next.ensures.turned);
   total = c.in_ok-next.ensures.total;
   limit = c.in_ok-next.ensures.limit;
-  peer = omega (arith, c.loop-next.invariant.peer, c.in_ok-next.ensures.peer.later);
+  peer = subst (λ (x : Option Ending). g.P.Peer.pipe_faults c.turn.new.peer ≡ counted_turn (g.P.Peer.pipe_faults c.loop-next.peer) (Ok x)) c.in_default.is c.in_ok-next.ensures.pipe_count ∙ c.loop-next.invariant.peer;
+  ended = subst (λ (x : Option Ending). g.P.Peer.has_ended c.turn.new.peer ≡ ended_turn (g.P.Peer.has_ended c.loop-next.peer) (Ok x)) c.in_default.is c.in_ok-next.ensures.ended_exact ∙ c.loop-next.invariant.ended;
   start = c.in_ok-next.ensures.start_faults ∙ c.loop-next.invariant.start;
-  sink = omega (arith, c.loop-next.invariant.sink, c.in_ok-next.ensures.sink.later);
+  sink = c.in_ok-next.ensures.sink_count ∙ c.loop-next.invariant.sink;
 }
 
 pub returns-in_err-next-clause-cut : goal.returns-in_err-next-clause-cut

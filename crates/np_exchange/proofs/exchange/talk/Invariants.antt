@@ -8,9 +8,10 @@ invariant-loop-next g l = record {
   turned : Turned g.E.Endpoint.role_of (g.P.Peer.known l.initial.peer) (g.P.Peer.known l.peer) (g.O.Sink.taken l.initial.out) (g.O.Sink.taken l.out) (g.E.Endpoint.seen l.initial.end) (g.E.Endpoint.seen l.end) None;
   total : total_of (g.E.Endpoint.seen l.end) ≡ l.total;
   limit : l.total ≤ 2 ^ 40;
-  peer : g.P.Peer.pipe_faults l.initial.peer ≤ g.P.Peer.pipe_faults l.peer;
+  peer : g.P.Peer.pipe_faults l.peer ≡ g.P.Peer.pipe_faults l.initial.peer;
+  ended : g.P.Peer.has_ended l.peer ≡ g.P.Peer.has_ended l.initial.peer;
   start : g.P.Peer.start_faults l.peer ≡ g.P.Peer.start_faults l.initial.peer;
-  sink : g.O.Sink.faults l.initial.out ≤ g.O.Sink.faults l.out;
+  sink : g.O.Sink.faults l.out ≡ g.O.Sink.faults l.initial.out;
 }
 
 abbrev pub decreases-loop-next : goal.decreases-loop-next

@@ -1,5 +1,5 @@
 use Rattle.std.proofs.Common.{inr}
-use Rattle.np_ending.proofs.Stops.{on-stop}
+use Rattle.np_end_stops.proofs.Stops.{on-stop}
 use Rattle.np_exchange.proofs.turn.run_and_print.Goals as goal
 
 pub returns-in_err-print_journal-clause-cut : goal.returns-in_err-print_journal-clause-cut

@@ -2,7 +2,7 @@ use Rattle.std.proofs.Common.{rules, ◌≡◌, ◌<◌, ◌∙◌, ◌^◌, ari
 use Rattle.np_endpoint.specs.End.{total_of}
 use Rattle.np_exchange.proofs.Exchanges.{going-ran, ending-refused, turned-done, turned-unsent, turned-failed, listening, turned-full, turned-heard}
 use Rattle.np_exchange.proofs.Cuts.{run-cut, send-cut, read-cut}
-use Rattle.np_ending.proofs.Stops.{on-stop}
+use Rattle.np_end_stops.proofs.Stops.{on-stop}
 use Rattle.np_exchange.proofs.turn.turn.Goals as goal
 
 pub returns-in-Refused-clause-turned : goal.returns-in-Refused-clause-turned
@@ -47,9 +47,12 @@ returns-in_err-sent g c = record {
   limit = search rules;
   more = search rules;
   peer = search rules;
+  pipe_count = search rules;
   ended = search rules;
+  ended_exact = search rules;
   start_faults = search rules;
   sink = search rules;
+  sink_count = search rules;
 }
 
 pub returns-in_err-ending : goal.returns-in_err-ending
@@ -63,7 +66,10 @@ returns-in_err-ending g c = record {
   limit = search rules;
   more = search rules;
   peer = search rules;
+  pipe_count = search rules;
   ended = search rules;
+  ended_exact = search rules;
   start_faults = search rules;
   sink = search rules;
+  sink_count = search rules;
 }

@@ -1,8 +1,8 @@
 use Rattle.std.proofs.Common.{◌≡◌, ℕ, List, ◌⊎◌, Err, sym, subst}
 use Rattle.std.specs.Prelude.{IsOk}
 use Rattle.np_values.specs.declared.name.Side.{Side}
-use Rattle.np_grammar.specs.declared.refusal.ScriptError.{ScriptError}
-use Rattle.np_grammar.specs.Refusals.{FirstError}
+use Rattle.np_script_grammar.specs.declared.refusal.ScriptError.{ScriptError}
+use Rattle.np_script_grammar.specs.Refusals.{FirstError}
 use Rattle.np_script.specs.declared.error.ParseError.TheVariants as errors
 use Rattle.np_host.specs.Check.{IsCanonicalOf}
 use Rattle.np_host.proofs.check.canonical_text.Goals as goal

@@ -4,8 +4,9 @@ use Rattle.std.proofs.lemmas.Result.{on_err_weaker}
 use Rattle.np_script.specs.declared.error.ParseError.{ParseError}
 use Rattle.np_script.specs.declared.error.ParseError.TheVariants as errors
 use Rattle.np_model.specs.Journal.{end_line}
-use Rattle.np_ending.specs.ScriptLines.{OfError, script_error_line}
-use Rattle.np_ending.proofs.Stops.{if-then, ok-then, early-line, failed-cause}
+use Rattle.np_end_lines.specs.ScriptLines.{OfError, script_error_line}
+use Rattle.np_end_stops.proofs.Stops.{if-then, ok-then, failed-cause}
+use Rattle.np_end_lines.proofs.EarlyLines.{early-line}
 use Rattle.np_host.specs.Check.{IsCanonicalOf}
 use Rattle.np_host.proofs.Checks.{canonical-file, canonical-front, error-file, error-front, no-error, not-script}
 use Rattle.np_host.proofs.check.check.Goals as goal

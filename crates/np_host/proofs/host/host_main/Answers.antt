@@ -1,9 +1,13 @@
+use Rattle.std.proofs.Common.{inl}
 use Rattle.np_host.specs.Words.{texts}
 use Rattle.np_host.proofs.Follows.{follows-done, follows-lost, follows-broken, follows-refused}
 use Rattle.np_host.proofs.FollowsCuts.{follows-cut}
 use Rattle.np_host.proofs.UnrefusedRuns.{words-unrefused}
 use Rattle.np_host.proofs.ShowCuts.{never-ran, eight-is-no-run, ten-is-no-run}
 use Rattle.np_host.proofs.host.host_main.Goals as goal
+
+pub returns-in-Ok-clause-listed : goal.returns-in-Ok-clause-listed
+returns-in-Ok-clause-listed g c = inl c.in-Ok.ensures.listed
 
 pub returns-in-Ok-clause-follows_done : goal.returns-in-Ok-clause-follows_done
 returns-in-Ok-clause-follows_done g c = λ is. follows-done c.served_pages_are_well_formed.ensures.law c.waits_law.ensures.law c.ends_law.ensures.law (texts c.args.words.now) (g.F.Files.contents c.args.files.now) (g.P.Peer.known c.args.peer.now) (g.P.Peer.known c.serve.new.peer) (g.O.Sink.taken c.args.out.now) (g.O.Sink.taken c.serve.new.out) c.in-Ok.status is c.in-Ok.ensures.runs

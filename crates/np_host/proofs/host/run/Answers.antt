@@ -1,13 +1,14 @@
 use Rattle.std.proofs.Common.{Result, Err, inl, inr, refl, ap, ◌∙◌, arith}
-use Rattle.np_served.specs.declared.serve.Unserved.{Unserved}
+use Rattle.np_model_scripts.specs.declared.serve.Unserved.{Unserved}
 use Rattle.np_model.specs.Journal.{end_line}
-use Rattle.np_ending.specs.ScriptLines.{OfError, Unbuilt, script_error_line, unbuilt_line}
+use Rattle.np_end_lines.specs.ScriptLines.{OfError, Unbuilt, script_error_line, unbuilt_line}
 use Rattle.np_model.specs.declared.script.Page.{Page}
 use Rattle.np_host.proofs.Pages.{only-page, refused-file, runs, ran-not}
 use Rattle.std.proofs.lemmas.Result.{on_err_weaker}
 use Rattle.np_host.specs.Words.{texts}
 use Rattle.np_host.proofs.PageCuts.{nothing-cut, early-cut, due-file, due-script, due-start, unstarted, page-cut}
-use Rattle.np_ending.proofs.Stops.{on-each, if-then, ok-then, early-line, on-stop, failed-cause}
+use Rattle.np_end_stops.proofs.Stops.{on-each, if-then, ok-then, on-stop, failed-cause}
+use Rattle.np_end_lines.proofs.EarlyLines.{early-line}
 use Rattle.np_host.proofs.host.run.Goals as goal
 
 abbrev refusal : Unserved → Result Page Unserved

@@ -10,12 +10,13 @@ use Rattle.np_host.specs.Check.{CheckCut}
 use Rattle.np_show.specs.Show.{ShowCut}
 use Rattle.np_ports.specs.Causes.{Rose}
 use Rattle.np_host.specs.Words.{RunWords, HostCommand, Check, Show, IsRun, GivesCommand, host_command, texts}
-use Rattle.np_host.specs.Host.{RunsPage, RunCut, NotStarted}
-use Rattle.np_host.proofs.RunWords.{words-are, of-words, of-check, of-show, run-some}
+use Rattle.np_host.specs.Host.{RunsPage, RunCut, NotStarted, OnlyRefused}
+use Rattle.np_host.proofs.RunWords.{words-are, of-words, of-named, of-check, of-show, run-some}
 use Rattle.np_host.specs.Outcomes.{CutShort}
 use Rattle.np_host.proofs.PageCuts.{words-nothing}
 use Rattle.np_host.proofs.ShowCuts.{nothing-shown}
-use Rattle.np_ending.proofs.Stops.{if-then, early-line, on-stop}
+use Rattle.np_end_stops.proofs.Stops.{if-then, on-stop}
+use Rattle.np_end_lines.proofs.EarlyLines.{early-line}
 use Rattle.np_host.proofs.host.serve.Goals as goal
 
 gives : (read : CommandWords) (plain : Vec (String Global)) (command : Option HostCommand) → read ≡ commands.Run plain → GivesCommand (Some read) command → IsRun plain.items command
@@ -29,6 +30,18 @@ returns-clause-runs g c =
     of-words _ _ (λ (r : RunWords). RunsPage r.page r.program (g.F.Files.contents c.args.files.now) (g.P.Peer.known c.args.peer.now) (g.P.Peer.known c.run.new.peer) (g.O.Sink.taken c.args.out.now) (g.O.Sink.taken c.run.new.out) c.in_ok-status.status) _
     (words-are c.in-Some-Run.plain.items _ _ c.index.result.now c.as_str-2.result.now (gives c.in-Some-Run.field-0 c.in-Some-Run.plain (host_command (texts c.args.words.now)) c.in-Some-Run.field-0-is (subst (λ (o : Option CommandWords). GivesCommand o (host_command (texts c.args.words.now))) c.in-Some-Run.is c.in_ok-plain.ensures.command)) c.index.ensures c.as_str-2.ensures.value (take_rest c.deref.result.now 1 ∙ ap (λ (l : List (String Global)). drop 1 l) c.deref.ensures.value))
     c.in_ok-status.ensures.runs
+
+pub returns-clause-script_only : goal.returns-clause-script_only
+returns-clause-script_only g c =
+    of-words _ _ (λ (r : RunWords). OnlyRefused r.page (g.F.Files.contents c.args.files.now) c.in_ok-status.status) _
+    (words-are c.in-Some-Run.plain.items _ _ c.index.result.now c.as_str-2.result.now (gives c.in-Some-Run.field-0 c.in-Some-Run.plain (host_command (texts c.args.words.now)) c.in-Some-Run.field-0-is (subst (λ (o : Option CommandWords). GivesCommand o (host_command (texts c.args.words.now))) c.in-Some-Run.is c.in_ok-plain.ensures.command)) c.index.ensures c.as_str-2.ensures.value (take_rest c.deref.result.now 1 ∙ ap (λ (l : List (String Global)). drop 1 l) c.deref.ensures.value))
+    c.in_ok-status.ensures.script_only
+
+pub returns-clause-failed_calls : goal.returns-clause-failed_calls
+returns-clause-failed_calls g c =
+    of-named _ _ _ _
+    (words-are c.in-Some-Run.plain.items _ _ c.index.result.now c.as_str-2.result.now (gives c.in-Some-Run.field-0 c.in-Some-Run.plain (host_command (texts c.args.words.now)) c.in-Some-Run.field-0-is (subst (λ (o : Option CommandWords). GivesCommand o (host_command (texts c.args.words.now))) c.in-Some-Run.is c.in_ok-plain.ensures.command)) c.index.ensures c.as_str-2.ensures.value (take_rest c.deref.result.now 1 ∙ ap (λ (l : List (String Global)). drop 1 l) c.deref.ensures.value))
+    c.in_ok-status.ensures.failed_calls
 
 pub returns-clause-not_started : goal.returns-clause-not_started
 returns-clause-not_started g c =

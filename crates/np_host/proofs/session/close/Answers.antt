@@ -1,8 +1,8 @@
-use Rattle.np_ending.specs.declared.ending.Ending.TheVariants.{Done, Unsent, Ended, Failed, Refused}
+use Rattle.np_end_stops.specs.declared.ending.Ending.TheVariants.{Done, Unsent, Ended, Failed, Refused}
 use Rattle.std.proofs.lemmas.Result.{on_ok_weaker, on_err_weaker}
 use Rattle.np_host.proofs.Closings.{closed-page, closed-loss}
 use Rattle.np_host.proofs.ClosingCuts.{page-part, loss-part, losing-part}
-use Rattle.np_ending.proofs.Stops.{on-stop}
+use Rattle.np_end_stops.proofs.Stops.{on-stop}
 use Rattle.np_host.proofs.session.close.Goals as goal
 
 pub returns-in-Done-clause-closed : goal.returns-in-Done-clause-closed

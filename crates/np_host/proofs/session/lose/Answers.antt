@@ -1,7 +1,7 @@
 use Rattle.std.proofs.lemmas.Result.{on_ok_weaker, on_err_weaker}
 use Rattle.np_host.proofs.Closings.{loses}
 use Rattle.np_host.proofs.ClosingCuts.{loses-nothing, loses-part}
-use Rattle.np_ending.proofs.Stops.{on-stop}
+use Rattle.np_end_stops.proofs.Stops.{on-stop}
 use Rattle.np_host.proofs.session.lose.Goals as goal
 
 pub returns-clause-lost : goal.returns-clause-lost

@@ -1,6 +1,6 @@
 use Rattle.np_model.specs.Alone.{page_role}
-use Rattle.np_ending.proofs.Reasons.{ending-reason}
-use Rattle.np_ending.proofs.Stops.{on-stop}
+use Rattle.np_end_stops.proofs.Reasons.{ending-reason}
+use Rattle.np_end_stops.proofs.Stops.{on-stop}
 use Rattle.np_exchange.proofs.Sessions.{session-ends, talk-cut, close-cut, is-run-status}
 use Rattle.np_host.specs.Outcomes.{OutcomeOf}
 use Rattle.np_host.proofs.session.session.Goals as goal

@@ -1,6 +1,6 @@
 use Rattle.std.proofs.Common.{◌≡◌, true, inr}
 use Rattle.std.specs.Prelude.{string_bytes}
-use Rattle.np_plug.specs.Plug.{texts, script_word, RunsPlugin, RunCut, OnlyRefused}
+use Rattle.np_plug.specs.Plug.{texts, script_word, RunsPlugin, RunCut, OnlyRefused, RefusesPlugin, NotesScriptOnly}
 use Rattle.np_ports.specs.Causes.{Rose}
 use Rattle.np_plug.specs.Outcomes.{CutShort}
 use Rattle.np_plug.proofs.ScriptWord.{script-is, of-script}
@@ -18,6 +18,16 @@ pub returns-in-Ok-clause-script_only : goal.returns-in-Ok-clause-script_only
 returns-in-Ok-clause-script_only g c =
     inr (of-script (script_word (texts c.args.words.now)) (string_bytes c.script-item.result) c.as_str.result.now (λ name. OnlyRefused name (g.F.Files.contents c.args.files.now) c.in-Ok.status) _
     (script-is c.args.words.now c.script-item.result c.in-len2.len_at_least c.in-len2.len_below c.script-item.is) c.as_str.ensures.value c.in-Ok.ensures.script_only)
+
+pub returns-in-Ok-clause-script : goal.returns-in-Ok-clause-script
+returns-in-Ok-clause-script g c = λ is.
+    of-script (script_word (texts c.args.words.now)) (string_bytes c.script-item.result) c.as_str.result.now (λ name. RefusesPlugin name (g.F.Files.contents c.args.files.now) (g.O.Sink.taken c.args.notes.now) (g.O.Sink.taken c.run.new.notes)) _
+    (script-is c.args.words.now c.script-item.result c.in-len2.len_at_least c.in-len2.len_below c.script-item.is) c.as_str.ensures.value (c.in-Ok.ensures.script is)
+
+pub returns-in-Ok-clause-failed_calls : goal.returns-in-Ok-clause-failed_calls
+returns-in-Ok-clause-failed_calls g c =
+    of-script (script_word (texts c.args.words.now)) (string_bytes c.script-item.result) c.as_str.result.now (λ name. NotesScriptOnly name (g.F.Files.failed_calls c.args.files.now) (g.F.Files.failed_calls c.run.new.files)) _
+    (script-is c.args.words.now c.script-item.result c.in-len2.len_at_least c.in-len2.len_below c.script-item.is) c.as_str.ensures.value c.in-Ok.ensures.failed_calls
 
 pub returns-in-Ok-clause-follows_done : goal.returns-in-Ok-clause-follows_done
 returns-in-Ok-clause-follows_done g c = λ is. follows-done c.served_pages_are_well_formed.ensures.law c.plugin_waits_law.ensures.law c.plugin_ends_law.ensures.law (texts c.args.words.now) (g.F.Files.contents c.args.files.now) (g.P.Peer.known c.args.peer.now) (g.P.Peer.known c.run.new.peer) (g.O.Sink.taken c.args.notes.now) (g.O.Sink.taken c.run.new.notes) c.in-Ok.status is (returns-in-Ok-clause-runs g c)

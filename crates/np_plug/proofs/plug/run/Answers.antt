@@ -1,12 +1,13 @@
 use Rattle.std.proofs.Common.{Result, Err, inl, inr, refl, ap, ◌∙◌, arith}
 use Rattle.np_model.specs.declared.script.Plugin.{Plugin}
-use Rattle.np_served.specs.declared.serve.Unserved.{Unserved}
-use Rattle.np_ending.specs.ScriptLines.{OfError, Unbuilt, script_error_line, unbuilt_line}
+use Rattle.np_model_scripts.specs.declared.serve.Unserved.{Unserved}
+use Rattle.np_end_lines.specs.ScriptLines.{OfError, Unbuilt, script_error_line, unbuilt_line}
 use Rattle.np_model.specs.Journal.{end_line}
 use Rattle.std.proofs.lemmas.Result.{on_err_weaker}
 use Rattle.np_plug.proofs.Scripts.{only-plugin, refused-file, runs, ran-not}
 use Rattle.np_plug.proofs.ScriptCuts.{nothing-cut, early-cut, due-file, due-script, plugin-cut}
-use Rattle.np_ending.proofs.Stops.{if-then, ok-then, early-line, on-stop, failed-cause}
+use Rattle.np_end_stops.proofs.Stops.{if-then, ok-then, on-stop, failed-cause}
+use Rattle.np_end_lines.proofs.EarlyLines.{early-line}
 use Rattle.np_plug.proofs.plug.run.Goals as goal
 
 abbrev refusal : Unserved → Result Plugin Unserved

@@ -1,5 +1,5 @@
 use Rattle.std.proofs.Common.{◌≡◌, true, false, ◌==◌, slice_index_or, rules}
-use Rattle.np_grammar.specs.Words.{is_line}
+use Rattle.np_script_grammar.specs.Words.{is_line}
 use Rattle.np_script.proofs.LineKinds.{line-is-read}
 use Rattle.np_script.proofs.read.read_line.Goals as goal
 

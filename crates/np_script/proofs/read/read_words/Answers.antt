@@ -1,7 +1,7 @@
 use Rattle.std.proofs.Common.{◌≡◌, Some, rules}
-use Rattle.np_grammar.specs.Tables.{table_at}
-use Rattle.np_grammar.specs.Forms.{form_of}
-use Rattle.np_words.specs.Forms.{form_value}
+use Rattle.np_script_grammar.specs.Tables.{table_at}
+use Rattle.np_script_grammar.specs.Forms.{form_of}
+use Rattle.np_script_words.specs.Forms.{form_value}
 use Rattle.np_script.proofs.LineKinds.{not-no-word, no-fields, too-much, form-error, limit-error}
 use Rattle.np_script.proofs.read.read_words.Goals as goal
 

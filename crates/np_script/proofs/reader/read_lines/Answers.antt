@@ -1,9 +1,9 @@
 use Rattle.std.proofs.Common.{ℕ, List, ◌+◌, refl, sym, subst}
-use Rattle.np_grammar.specs.declared.refusal.ScriptKind.{ScriptKind}
-use Rattle.np_grammar.specs.Words.{lines_of}
-use Rattle.np_grammar.specs.Order.{Standing}
-use Rattle.np_build.specs.declared.state.Building.{Building}
-use Rattle.np_grammar.specs.Refusals.{IsRefusedLine}
+use Rattle.np_script_grammar.specs.declared.refusal.ScriptKind.{ScriptKind}
+use Rattle.np_script_grammar.specs.Words.{lines_of}
+use Rattle.np_script_grammar.specs.Order.{Standing}
+use Rattle.np_script_builder.specs.declared.state.Building.{Building}
+use Rattle.np_script_grammar.specs.Refusals.{IsRefusedLine}
 use Rattle.np_script.proofs.WholeTexts.{Builds, can-build, line-read, line-refused, refusal}
 use Rattle.np_script.proofs.reader.read_lines.Goals as goal
 

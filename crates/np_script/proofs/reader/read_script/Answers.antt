@@ -1,5 +1,5 @@
 use Rattle.std.proofs.Common.{◌≡◌, ◌≤◌, length, refl, rules}
-use Rattle.np_grammar_laws.specs.Laws.{last_place}
+use Rattle.np_script_line_laws.specs.Laws.{last_place}
 use Rattle.np_script.proofs.WholeTexts.{Builds, cut-off}
 use Rattle.np_script.proofs.reader.read_script.Goals as goal
 

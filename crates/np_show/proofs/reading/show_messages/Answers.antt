@@ -4,8 +4,8 @@ use Rattle.np_model.specs.declared.refusal.Refusal.{Refusal}
 use Rattle.np_message.specs.declared.wire.WireError.{WireError}
 use Rattle.np_message.specs.Decoding.{Partial, front}
 use Rattle.np_wire.specs.Feed.{Fed}
-use Rattle.np_transfer.proofs.Pieces.{known_read, no_failure}
-use Rattle.np_ending.proofs.Stops.{on-stop}
+use Rattle.np_ports.proofs.Transfers.{known_read, no_failure}
+use Rattle.np_end_stops.proofs.Stops.{on-stop}
 use Rattle.np_show.specs.declared.outcome.Outcome.TheVariants as outcomes
 use Rattle.np_show.specs.Taking.{AddsFront, ComesTo, StandsAt}
 use Rattle.np_show.specs.Listing.{file_listing}
@@ -23,7 +23,7 @@ loop-total-init g c = record {
   stands = λ f e. subst (λ (d : Fed). Stands (f c.args.name.now) 0 d (g.O.Sink.taken c.args.out.now) (g.O.Sink.taken c.args.out.now)) (sym c.new-feed.ensures.value) (nothing-read (f c.args.name.now) (g.O.Sink.taken c.args.out.now));
   faults = refl;
   failed = λ x e. e;
-  sink = omega arith;
+  sink = refl;
 }
 
 pub returns-in-Err-Failed-clause-comes : goal.returns-in-Err-Failed-clause-comes
@@ -68,10 +68,7 @@ loop-total-preserved g c = record {
       piece-read (f c.args.name.now) c.read.new.buf (drop c.min-room.result c.loop-total.buf) c.loop-total.total c.in-Ok.n c.loop-total.feed c.show_piece.new.feed _ _ _ (c.loop-total.invariant.stands f e) c.in-Ok.ensures.bound call.1 c.in_ok-error.ensures.printed;
   faults = c.in-Ok.ensures.count ∙ c.loop-total.invariant.faults;
   failed = λ x e. no_failure _ _ c.in-Ok.n c.args.name.now x (c.loop-total.invariant.failed x e) c.in-Ok.ensures.failed_calls;
-  sink =
-      let a = c.loop-total.invariant.sink in
-      let b = c.show_piece.ensures.sink.later in
-      omega (arith, a, b);
+  sink = c.in_ok-error.ensures.sink_count ∙ c.loop-total.invariant.sink;
 }
 
 pub returns-clause-comes : goal.returns-clause-comes

@@ -14,7 +14,7 @@ invariant-loop-total g l = record {
   stands : (f : Contents) → g.F.Files.contents l.initial.files ≡ Some f → Stands (f l.name) l.total l.feed (g.O.Sink.taken l.initial.out) (g.O.Sink.taken l.out);
   faults : g.F.Files.faults l.files ≡ g.F.Files.faults l.initial.files;
   failed : (x : List (List ℕ × FileCall)) → g.F.Files.failed_calls l.initial.files ≡ Some x → g.F.Files.failed_calls l.files ≡ Some x;
-  sink : g.O.Sink.faults l.initial.out ≤ g.O.Sink.faults l.out;
+  sink : g.O.Sink.faults l.out ≡ g.O.Sink.faults l.initial.out;
 }
 
 abbrev pub decreases-loop-total : goal.decreases-loop-total

@@ -1,5 +1,0 @@
-use Rattle.np_build.proofs.Forward.{built_pages}
-use Rattle.np_build.proofs.laws.built_pages.Goals as goal
-
-pub returns : goal.returns
-returns c = record { law = built_pages }

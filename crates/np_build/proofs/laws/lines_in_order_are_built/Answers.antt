@@ -1,5 +1,0 @@
-use Rattle.np_build.proofs.Forward.{lines_in_order_are_built}
-use Rattle.np_build.proofs.laws.lines_in_order_are_built.Goals as goal
-
-pub returns : goal.returns
-returns c = record { law = lines_in_order_are_built }

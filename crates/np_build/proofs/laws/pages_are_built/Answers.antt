@@ -1,5 +1,0 @@
-use Rattle.np_build.proofs.Backward.{pages_are_built}
-use Rattle.np_build.proofs.laws.pages_are_built.Goals as goal
-
-pub returns : goal.returns
-returns c = record { law = pages_are_built }

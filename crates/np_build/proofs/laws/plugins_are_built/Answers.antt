@@ -1,5 +1,0 @@
-use Rattle.np_build.proofs.Backward.{plugins_are_built}
-use Rattle.np_build.proofs.laws.plugins_are_built.Goals as goal
-
-pub returns : goal.returns
-returns c = record { law = plugins_are_built }

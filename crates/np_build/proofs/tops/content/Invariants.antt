@@ -1,6 +1,0 @@
-use Rattle.std.proofs.Common.{◌≡◌}
-use Rattle.np_grammar.specs.Scripts.{copies}
-use Rattle.np_build.proofs.tops.content.Given as goal
-
-abbrev pub invariant-loop-time : goal.invariant-loop-time
-invariant-loop-time l = l.bytes ≡ copies l._time l.piece

@@ -1,7 +1,0 @@
-use Rattle.std.proofs.Common.{◌≡◌, ◌-◌}
-use Rattle.np_message.specs.Items.{ValueItem}
-use Rattle.np_decode.specs.Reading.{read_many, with_front}
-use Rattle.np_decode.proofs.lists.values.Given as goal
-
-abbrev pub invariant-loop : goal.invariant-loop
-invariant-loop l = with_front l.read (read_many ValueItem (l.count - l.counter) l.rest) ≡ read_many ValueItem l.count l.bytes

@@ -1,2 +1,0 @@
-mod WorkedLines
-mod WorkedScripts

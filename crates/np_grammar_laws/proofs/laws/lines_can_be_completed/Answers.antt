@@ -1,5 +1,0 @@
-use Rattle.np_grammar_laws.proofs.Completion.{completed}
-use Rattle.np_grammar_laws.proofs.laws.lines_can_be_completed.Goals as goal
-
-pub returns : goal.returns
-returns c = record { law = completed }

@@ -1,3 +1,0 @@
-pub mod Laws
-pub use Rattle.np_grammar.specs.Scripts
-pub use Rattle.np_grammar.specs.Order

@@ -1,5 +1,0 @@
-use Rattle.np_laws.proofs.Replies.{page-calls}
-use Rattle.np_laws.proofs.laws.calls_law.Goals as goal
-
-pub returns : goal.returns
-returns c = record { law = page-calls }

@@ -1,5 +1,0 @@
-use Rattle.np_laws.proofs.Honest.{honest}
-use Rattle.np_laws.proofs.laws.honest_law.Goals as goal
-
-pub returns : goal.returns
-returns c = record { law = honest }

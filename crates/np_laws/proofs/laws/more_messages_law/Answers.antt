@@ -1,6 +1,0 @@
-use Rattle.std.proofs.Common.{◌++◌}
-use Rattle.np_laws.proofs.Alone.{endpoint-more, extends-by}
-use Rattle.np_laws.proofs.laws.more_messages_law.Goals as goal
-
-pub returns : goal.returns
-returns c = record { law = λ P got more turns from. endpoint-more P got (got ++ more) turns from (extends-by got more) }

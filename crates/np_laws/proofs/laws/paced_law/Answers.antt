@@ -1,5 +1,0 @@
-use Rattle.np_laws.proofs.Replies.{page-counted}
-use Rattle.np_laws.proofs.laws.paced_law.Goals as goal
-
-pub returns : goal.returns
-returns c = record { law = page-counted }

@@ -1,6 +1,0 @@
-use Rattle.np_laws.specs.Laws.{both_start}
-use Rattle.np_laws.proofs.Cut.{plugin-cut}
-use Rattle.np_laws.proofs.laws.plugin_cut_law.Goals as goal
-
-pub returns : goal.returns
-returns c = record { law = λ P Q c d rounds j q. plugin-cut P Q (both_start c d) rounds j q }

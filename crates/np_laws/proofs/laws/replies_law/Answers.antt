@@ -1,5 +1,0 @@
-use Rattle.np_laws.proofs.Replies.{plugin-replies}
-use Rattle.np_laws.proofs.laws.replies_law.Goals as goal
-
-pub returns : goal.returns
-returns c = record { law = plugin-replies }

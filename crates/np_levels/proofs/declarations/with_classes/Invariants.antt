@@ -1,6 +1,0 @@
-use Rattle.std.proofs.Common.{◌≡◌, map, max, take}
-use Rattle.np_levels.specs.Levels.{greatest, class_level}
-use Rattle.np_levels.proofs.declarations.with_classes.Given as goal
-
-abbrev pub invariant-loop-class : goal.invariant-loop-class
-invariant-loop-class l = l.level ≡ max l.least (greatest (map class_level (take l.class-index l.classes)))

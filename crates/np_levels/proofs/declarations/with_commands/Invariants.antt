@@ -1,6 +1,0 @@
-use Rattle.std.proofs.Common.{◌≡◌, map, max, take}
-use Rattle.np_levels.specs.Levels.{greatest, command_level}
-use Rattle.np_levels.proofs.declarations.with_commands.Given as goal
-
-abbrev pub invariant-loop-command : goal.invariant-loop-command
-invariant-loop-command l = l.level ≡ max l.least (greatest (map command_level (take l.command-index l.commands)))

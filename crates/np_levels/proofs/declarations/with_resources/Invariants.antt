@@ -1,6 +1,0 @@
-use Rattle.std.proofs.Common.{◌≡◌, map, max, take}
-use Rattle.np_levels.specs.Levels.{greatest, resource_level}
-use Rattle.np_levels.proofs.declarations.with_resources.Given as goal
-
-abbrev pub invariant-loop-resource : goal.invariant-loop-resource
-invariant-loop-resource l = l.level ≡ max l.least (greatest (map resource_level (take l.resource-index l.resources)))

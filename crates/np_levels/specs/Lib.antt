@@ -1,2 +1,0 @@
-pub mod Levels
-pub use Rattle.np_grammar.specs.Forms

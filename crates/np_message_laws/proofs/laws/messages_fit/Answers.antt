@@ -1,5 +1,0 @@
-use Rattle.np_message_laws.proofs.Sizes.{body_short}
-use Rattle.np_message_laws.proofs.laws.messages_fit.Goals as goal
-
-pub returns : goal.returns
-returns c = record { law = body_short }

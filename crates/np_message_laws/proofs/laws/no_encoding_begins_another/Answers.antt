@@ -1,5 +1,0 @@
-use Rattle.np_message_laws.proofs.Fronts.{no_encoding_begins_another}
-use Rattle.np_message_laws.proofs.laws.no_encoding_begins_another.Goals as goal
-
-pub returns : goal.returns
-returns c = record { law = no_encoding_begins_another }

@@ -1,0 +1,5 @@
+pub mod CommandLists
+pub mod WellFormed
+pub mod ServedLevels
+pub mod Scripts
+pub mod Greatest

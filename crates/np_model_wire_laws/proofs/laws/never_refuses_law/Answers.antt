@@ -1,0 +1,5 @@
+use Rattle.np_model_wire_laws.proofs.Texts.{never-refuses}
+use Rattle.np_model_wire_laws.proofs.laws.never_refuses_law.Goals as goal
+
+pub returns : goal.returns
+returns c = record { law = never-refuses (record { again = c.encoded_is_read_again.ensures.law; apart = c.no_encoding_begins_another.ensures.law }) (record { exact = c.partial_is_cut_short.ensures.exact; beginning = c.partial_is_cut_short.ensures.beginning }) c.replies_law.ensures.law c.more_messages_law.ensures.law c.honest_law.ensures.law }

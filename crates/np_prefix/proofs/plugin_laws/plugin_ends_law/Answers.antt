@@ -1,5 +1,0 @@
-use Rattle.np_prefix.proofs.PluginTexts.{plugin-ends}
-use Rattle.np_prefix.proofs.plugin_laws.plugin_ends_law.Goals as goal
-
-pub returns : goal.returns
-returns c = record { law = plugin-ends (record { again = c.encoded_is_read_again.ensures.law; apart = c.no_encoding_begins_another.ensures.law }) c.partial_is_cut_short.ensures.exact c.calls_law.ensures.law c.plugin_cut_law.ensures.law c.serves_law.ensures.law }

@@ -1,2 +1,0 @@
-pub mod Printed
-pub use Rattle.np_grammar.specs.Grammar

@@ -1,5 +1,0 @@
-use Rattle.np_rows.proofs.CommandTables.{were_lines}
-use Rattle.np_rows.proofs.laws.commands_were_lines.Goals as goal
-
-pub returns : goal.returns
-returns c = record { law = were_lines }

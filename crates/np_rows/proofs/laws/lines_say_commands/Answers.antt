@@ -1,5 +1,0 @@
-use Rattle.np_rows.proofs.CommandTables.{lines_say}
-use Rattle.np_rows.proofs.laws.lines_say_commands.Goals as goal
-
-pub returns : goal.returns
-returns c = record { law = lines_say }

@@ -1,8 +1,0 @@
-pub mod SaidBy
-pub mod Actions
-pub mod Commands
-pub mod Laws
-pub use Rattle.np_grammar.specs.Forms
-pub use Rattle.np_grammar.specs.Tables
-pub use Rattle.np_grammar.specs.Rows
-pub use Rattle.np_fields.specs.Takes

@@ -1,0 +1,5 @@
+use Rattle.np_script_builder.proofs.Backward.{plugins_are_built}
+use Rattle.np_script_builder.proofs.laws.plugins_are_built.Goals as goal
+
+pub returns : goal.returns
+returns c = record { law = plugins_are_built }

@@ -1,0 +1,32 @@
+//! What is promised of building.
+ghost use Rattle.np_script_builder.specs.Laws.{LinesInOrderAreBuilt, BuiltGoesOn, BuiltPages, BuiltPlugins, PagesAreBuilt, PluginsAreBuilt};
+
+/// Lines in order, each of which may follow those before it, say something.
+pub fn lines_in_order_are_built()
+    ensures law { LinesInOrderAreBuilt }
+{}
+
+/// With one line more, what is built continues by that line at its place.
+pub fn built_goes_on()
+    ensures law { BuiltGoesOn }
+{}
+
+/// The lines of a page say the page that is built of them.
+pub fn built_pages()
+    ensures law { BuiltPages }
+{}
+
+/// The lines of a plug-in say the plug-in that is built of them.
+pub fn built_plugins()
+    ensures law { BuiltPlugins }
+{}
+
+/// A page that lines in order say is what is built of them.
+pub fn pages_are_built()
+    ensures law { PagesAreBuilt }
+{}
+
+/// A plug-in that lines in order say is what is built of them.
+pub fn plugins_are_built()
+    ensures law { PluginsAreBuilt }
+{}

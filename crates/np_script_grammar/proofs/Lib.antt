@@ -1,0 +1,3 @@
+mod WorkedLines
+mod WorkedScripts
+pub mod AllFields

@@ -1,0 +1,10 @@
+pub mod Words
+pub mod Fields
+pub mod Forms
+pub mod Tables
+pub mod Rows
+pub mod Scripts
+pub mod Order
+pub mod Grammar
+pub mod Refusals
+pub mod Takes

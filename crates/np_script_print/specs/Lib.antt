@@ -1,0 +1,2 @@
+pub mod Printed
+pub use Rattle.np_script_grammar.specs.Grammar

@@ -1,4 +1,0 @@
-pub mod CommandLists
-pub mod WellFormed
-pub mod ServedLevels
-pub mod Scripts

@@ -1,5 +1,0 @@
-use Rattle.np_served.proofs.ServedLevels.{plugins-above}
-use Rattle.np_served.proofs.laws.unserved_plugins_are_above.Goals as goal
-
-pub returns : goal.returns
-returns c = record { law = plugins-above }

@@ -1,7 +1,0 @@
-use Rattle.std.proofs.Common.{◌≡◌, drop}
-use Rattle.np_served.specs.Served.{served_commands}
-use Rattle.np_served.proofs.CommandLists.{with_front}
-use Rattle.np_served.proofs.page.served_commands.Given as goal
-
-abbrev pub invariant-loop-command : goal.invariant-loop-command
-invariant-loop-command l = served_commands l.commands ≡ with_front l.served (served_commands (drop l.command-index l.commands))

@@ -1,3 +1,0 @@
-pub mod Laws
-pub use Rattle.np_grammar.specs.Grammar
-pub use Rattle.np_grammar.specs.Refusals

@@ -1,5 +1,0 @@
-use Rattle.np_words.proofs.SpacedLines.{spaced_words_lem}
-use Rattle.np_words.proofs.laws.spaced_words.Goals as goal
-
-pub returns : goal.returns
-returns c = record { law = spaced_words_lem }
