@@ -1,0 +1,6 @@
+pub mod Names
+pub mod Finding
+pub mod FieldLists
+pub mod Keeping
+pub mod Lookups
+pub mod Histories

@@ -1,0 +1,11 @@
+use Rattle.std.proofs.Common.{true, refl}
+use Rattle.np_objects.specs.LiveObjects.{pin_set}
+use Rattle.np_objects.proofs.Finding.{edit-view, edit-rising}
+use Rattle.np_objects.proofs.live.LiveObjects.pin.Goals as goal
+
+pub invariant_of-self : goal.invariant_of-self
+invariant_of-self c =
+    edit-rising c.args.name c.self.inside.objects.items c.as_slice.result.now c.place_of-place.result c.index_mut-object.result.now _ c.self.invariant c.as_slice.ensures.value c.place_of-place.ensures.at c.index_mut-object.ensures.value refl
+
+pub returns : goal.returns
+returns c = record { value = edit-view c.args.name (pin_set true) c.self.inside.objects.items c.as_slice.result.now _ c.place_of-place.result c.index_mut-object.result.now _ c.self.view_is c.self.invariant c.as_slice.ensures.value c.place_of-place.ensures.at c.index_mut-object.ensures.value refl }

@@ -1,0 +1,4 @@
+pub mod Fields
+pub mod LiveObjects
+pub mod Objects
+pub mod History
