@@ -1,0 +1,11 @@
+pub mod Names
+pub mod Finding
+pub mod ExportLemmas
+pub mod PendingLemmas
+pub mod Looking
+pub mod ImportLemmas
+pub mod TakingLemmas
+pub mod NameLemmas
+pub mod KeepingLemmas
+pub mod CountLemmas
+pub mod SendingLemmas

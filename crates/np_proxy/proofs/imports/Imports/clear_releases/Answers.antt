@@ -1,0 +1,5 @@
+use Rattle.np_proxy.proofs.KeepingLemmas.{keeps-cleared}
+use Rattle.np_proxy.proofs.imports.Imports.clear_releases.Goals as goal
+
+pub invariant_of-self : goal.invariant_of-self
+invariant_of-self c = rw (c.drop_first.ensures.value, c.drop_first.ensures.capacity) (keeps-cleared _ _ 1024 c.self.invariant)

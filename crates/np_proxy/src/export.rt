@@ -1,0 +1,20 @@
+use crate::named::Named;
+use np_values::Name;
+
+/// An object of this side that the other side may name.
+#[derive(Clone, Copy, Debug, PartialEq, Eq)]
+pub struct Export {
+    pub name: Name,
+    /// How many references to it the other side has, or will have: those sent, without those released.
+    pub out: u64,
+}
+
+impl Named for Export {
+    ghost use Rattle.np_proxy.specs.Exports.{export_name};
+
+    ghost name_of = { export_name };
+
+    fn name(&self) -> Name {
+        self.name
+    }
+}
