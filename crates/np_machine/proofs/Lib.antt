@@ -1,0 +1,27 @@
+pub mod Counting
+pub mod NameLemmas
+pub mod BalanceLemmas
+pub mod PhaseLemmas
+pub mod Untouched
+pub mod Drops
+pub mod Teardowns
+pub mod Balances
+pub mod Growing
+pub mod Examining
+pub mod EndpointRuns
+pub mod Backing
+pub mod Accounts
+pub mod RemoteTests
+pub mod SoundRuns
+pub mod ReleaseOrder
+pub mod FormatNames
+pub mod ReleaseRuns
+pub mod NameOrder
+pub mod Serials
+pub mod Naming
+pub mod Turns
+pub mod Orders
+pub mod Cuts
+pub mod HonestNames
+pub mod Deliveries
+mod WorkedExamples
