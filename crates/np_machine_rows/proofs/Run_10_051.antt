@@ -1,0 +1,347 @@
+-- Made by tools/vector-theorems of tests/vectors/10-051.
+use Rattle.std.proofs.Common.{◌≡◌, pos, negsuc, [], ◌∷◌, refl, true, false}
+use Rattle.std.specs.Prelude.{codes}
+use Rattle.std.specs.Char.{encode_utf8}
+use Rattle.std.specs.Fmt.{digits}
+use Rattle.std.specs.Str.{is_utf8, chars}
+use Rattle.np_values.specs.declared.error.NpError.TheVariants.{NoError}
+use Rattle.np_values.specs.declared.handler.Handler.TheVariants as handlers
+use Rattle.np_values.specs.declared.name.Side.TheVariants as sides
+use Rattle.np_values.specs.declared.value.Value.TheVariants as values
+use Rattle.np_values.specs.Text.{is_text}
+use Rattle.np_idents.specs.declared.key.IdKey.TheVariants.{Str, Int as IntKey}
+use Rattle.np_idents.specs.declared.op.Op.TheVariants as ops
+use Rattle.np_script_grammar.specs.declared.action.Action.TheVariants as actions
+use Rattle.np_script_grammar.specs.declared.action.Operand.TheVariants.{Reg, Const}
+use Rattle.np_script_grammar.specs.declared.class.Member.TheVariants as members
+use Rattle.np_script_grammar.specs.declared.command.Command.TheVariants as commands
+use Rattle.np_script_grammar.specs.declared.page.Page.{Page}
+use Rattle.np_script_grammar.specs.declared.plugin.Plugin.{Plugin}
+use Rattle.np_message.specs.Encoding.{encoding}
+use Rattle.np_journal.specs.declared.line.Line.TheVariants.{Created, Entered, HandlerRun, TaskBegun, ProxyGone, Invalidated, Deallocated, Noted, CommandResult}
+use Rattle.np_journal.specs.declared.printed.Printed.TheVariants as results
+use Rattle.np_machine_plans.specs.AtOnce.{orderly_along}
+use Rattle.np_machine_plans.specs.Outcomes.{resource, outcome, direct_outcome, page_bytes, plugin_bytes}
+
+abbrev page : Page
+page = record {
+  major = 0;
+  minor = 27;
+  classes = (
+      (record {
+        name = codes "Window";
+        version = 1;
+        stored = false;
+        members = (
+            members.Method (Str (codes "m3")) [] ∷
+            members.Construct (actions.Load 4 1 ∷ actions.Invoke 3 (Reg 0) (Str (codes "take")) (Const (values.Bool true) ∷ Reg 0 ∷ Reg 1 ∷ []) ∷ actions.Load 0 1 ∷ actions.Invoke 2 (Reg 0) (IntKey (pos 4)) [] ∷ []) ∷
+            members.Method (IntKey (pos 4)) (actions.Invoke 2 (Reg 0) (Str (codes "take")) (Reg 2 ∷ Reg 1 ∷ Reg 0 ∷ []) ∷ actions.Slot 3 (Const (values.Bool true)) ∷ []) ∷
+            members.Default (actions.Load 3 1 ∷ actions.SelfTo 2 ∷ actions.CallDefault 2 (Reg 1) (Reg 1 ∷ Reg 3 ∷ []) ∷ actions.Invoke 3 (Reg 2) (Str (codes "take")) (Reg 1 ∷ Reg 3 ∷ Reg 1 ∷ []) ∷ []) ∷
+            members.Method (Str (codes "m2")) (actions.Load 2 0 ∷ actions.Load 0 2 ∷ actions.New 3 (codes "B") ∷ []) ∷
+            members.Method (Str (codes "m1")) (actions.Load 1 2 ∷ actions.SelfTo 2 ∷ actions.New 4 (codes "A") ∷ actions.New 4 (codes "B") ∷ actions.Put (Reg 4) (Str (codes "f1")) (Reg 2) ∷ actions.Put (Reg 4) (Str (codes "f1")) (Reg 4) ∷ actions.Slot 0 (Reg 4) ∷ actions.Enumerate 2 (Reg 4) ∷ []) ∷
+            members.Method (Str (codes "m0")) (actions.Load 1 2 ∷ actions.Invoke 0 (Reg 2) (IntKey (pos 4)) (Reg 2 ∷ Reg 1 ∷ Reg 3 ∷ []) ∷ actions.Throw (codes "no") ∷ actions.Load 0 1 ∷ actions.Note (Const (values.Text (195 ∷ 164 ∷ 34 ∷ 92 ∷ 1 ∷ 127 ∷ []))) ∷ actions.Load 1 2 ∷ []) ∷
+            members.Method (Str (codes "take")) (actions.SelfTo 2 ∷ actions.New 4 (codes "A") ∷ actions.SelfTo 1 ∷ actions.Load 1 2 ∷ actions.New 1 (codes "B") ∷ actions.New 2 (codes "A") ∷ actions.Get 3 (Reg 3) (Str (codes "f0")) ∷ actions.Load 0 2 ∷ actions.New 0 (codes "Window") ∷ actions.Put (Reg 0) (Str (codes "7")) (Reg 3) ∷ actions.Put (Reg 0) (Str (codes "f1")) (Reg 0) ∷ actions.Slot 3 (Reg 0) ∷ actions.Enumerate 3 (Reg 0) ∷ []) ∷ []);
+      }) ∷
+      (record {
+        name = codes "A";
+        version = 1;
+        stored = false;
+        members = (
+            members.Method (Str (codes "m1")) (actions.Load 3 2 ∷ actions.Set 4 (Reg 0) ∷ actions.CallDefault 3 (Reg 0) [] ∷ []) ∷
+            members.Method (Str (codes "m2")) (actions.Load 3 1 ∷ actions.Load 2 0 ∷ actions.Note (Reg 1) ∷ actions.New 1 (codes "Window") ∷ actions.SelfTo 13 ∷ actions.Invoke 1 (Reg 3) (Str (codes "take")) (Reg 2 ∷ Reg 3 ∷ Reg 5 ∷ []) ∷ actions.Load 3 0 ∷ []) ∷
+            members.Method (Str (codes "m0")) (actions.SelfTo 2 ∷ actions.Load 2 0 ∷ actions.Invoke 1 (Reg 1) (Str (codes "m1")) (Reg 1 ∷ []) ∷ actions.Put (Reg 2) (Str (codes "7")) (Reg 3) ∷ actions.Load 0 2 ∷ actions.Add 0 (Reg 1) (Const values.Void) ∷ []) ∷
+            members.Method (Str (codes "take")) (actions.Load 5 2 ∷ actions.New 4 (codes "A") ∷ actions.New 5 (codes "B") ∷ actions.New 2 (codes "B") ∷ actions.Invoke 3 (Const (values.Int (negsuc 2147483647))) (Str (codes "none")) (Reg 2 ∷ Reg 3 ∷ Reg 2 ∷ []) ∷ actions.Destroy 2 2 ∷ actions.Load 2 0 ∷ actions.Load 3 1 ∷ actions.New 4 (codes "B") ∷ actions.New 3 (codes "A") ∷ actions.New 2 (codes "Window") ∷ actions.Put (Reg 3) (Str (codes "7")) (Reg 1) ∷ []) ∷ []);
+      }) ∷
+      (record {
+        name = codes "B";
+        version = 3;
+        stored = true;
+        members = (
+            members.Method (Str (codes "m0")) (actions.Load 3 2 ∷ actions.Load 2 0 ∷ actions.Drop 1 ∷ actions.OnFalse 1 ∷ actions.Load 3 1 ∷ actions.OnFalse 3 ∷ actions.Destroy 2 1 ∷ actions.Load 0 2 ∷ []) ∷
+            members.Getter (Str (codes "f0")) (actions.Load 2 0 ∷ actions.Load 3 2 ∷ actions.Invoke 2 (Reg 2) (IntKey (pos 4)) (Reg 1 ∷ Reg 4 ∷ Reg 1 ∷ []) ∷ actions.Throw (codes "no") ∷ actions.New 0 (codes "Window") ∷ actions.Get 8 (Reg 3) (Str (codes "f1")) ∷ actions.Load 0 2 ∷ []) ∷
+            members.Method (IntKey (pos 4)) (actions.SelfTo 2 ∷ actions.Load 2 1 ∷ []) ∷
+            members.Method (Str (codes "m2")) [] ∷
+            members.Default (actions.Load 3 1 ∷ actions.Slot 0 (Reg 2) ∷ actions.Load 0 3 ∷ actions.Load 0 1 ∷ []) ∷
+            members.Method (Str (codes "m1")) (actions.Load 3 3 ∷ actions.Load 2 3 ∷ []) ∷
+            members.Method (Str (codes "take")) (actions.SelfTo 2 ∷ actions.Load 1 2 ∷ actions.New 4 (codes "Window") ∷ actions.New 5 (codes "A") ∷ actions.Put (Reg 4) (IntKey (pos 7)) (Reg 5) ∷ actions.New 5 (codes "B") ∷ actions.Put (Reg 4) (Str (codes "f1")) (Reg 5) ∷ actions.Slot 0 (Reg 4) ∷ actions.Drop 4 ∷ []) ∷
+            members.Method (Str (codes "m3")) (actions.SelfTo 2 ∷ actions.Load 2 0 ∷ actions.New 1 (codes "A") ∷ actions.New 2 (codes "B") ∷ actions.New 4 (codes "B") ∷ []) ∷ []);
+      }) ∷ []);
+  resources = (
+      resource (codes "r") (codes "t/p") 1 (codes "0123456789") ∷
+      resource (codes "s") (codes "t/p") 2000 (codes "abc") ∷
+      resource (codes "e") (codes "t/p") 0 (195 ∷ 164 ∷ []) ∷ []);
+  commands = (
+      commands.Create (codes "t/x") 1 (codes "a" ∷ codes "1" ∷ codes "a" ∷ codes "1" ∷ codes "a" ∷ codes "1" ∷ []) ∷
+      commands.Scriptable 0 1 ∷
+      commands.New 2 1 (codes "A") ∷
+      commands.New 3 1 (codes "Window") ∷
+      commands.Invoke 4 (Reg 1) (Str (codes "m3")) [] ∷
+      commands.Invoke 4 (Reg 0) (IntKey (pos 4)) [] ∷
+      commands.Invoke 5 (Reg 0) (Str (codes "m2")) (Reg 5 ∷ []) ∷
+      commands.Drop 5 ∷
+      commands.Invoke 5 (Reg 0) (Str (codes "m1")) [] ∷
+      commands.Invoke 4 (Reg 3) (Str (codes "m0")) (Reg 2 ∷ Const values.Null ∷ []) ∷
+      commands.Invoke 4 (Reg 1) (Str (codes "m3")) (Const (values.Int (pos 0)) ∷ Const (values.Text (codes "r")) ∷ []) ∷
+      commands.Create (codes "t/y") 2 [] ∷
+      commands.Scriptable 2 2 ∷
+      commands.Invoke 4 (Reg 1) (Str (codes "m2")) (Reg 3 ∷ Reg 3 ∷ Reg 2 ∷ []) ∷
+      commands.Pump 1 ∷
+      commands.Invoke 3 (Reg 0) (Str (codes "m2")) (Reg 1 ∷ Reg 3 ∷ Reg 3 ∷ []) ∷
+      commands.Create (codes "t/y") 2 [] ∷
+      commands.Scriptable 3 3 ∷
+      commands.Invoke 5 (Reg 0) (Str (codes "m1")) (Reg 3 ∷ Reg 2 ∷ Reg 4 ∷ []) ∷
+      commands.Turn ∷
+      commands.Invoke 5 (Reg 0) (Str (codes "m3")) (Reg 3 ∷ Reg 2 ∷ Reg 1 ∷ []) ∷
+      commands.Invoke 1 (Reg 0) (Str (codes "take")) (Reg 3 ∷ Const (values.Bool false) ∷ Reg 0 ∷ []) ∷
+      commands.Invoke 5 (Reg 3) (Str (codes "m2")) (Reg 1 ∷ Reg 4 ∷ Reg 5 ∷ []) ∷ []);
+}
+
+abbrev plugin : Plugin
+plugin = record {
+  major = 0;
+  minor = 27;
+  classes = (
+      (record {
+        name = codes "Main";
+        version = 3;
+        stored = true;
+        members = (
+            members.Method (Str (codes "take")) (actions.Put (Reg 0) (Str (codes "f0")) (Reg 5) ∷ actions.GetUrl 1 (Const (values.Text (codes "r"))) (pos 3) ∷ actions.Invoke 0 (Reg 1) (Str (codes "take")) (Reg 0 ∷ Reg 0 ∷ []) ∷ actions.Slot 1 (Reg 1) ∷ actions.Get 2 (Reg 5) (IntKey (pos 7)) ∷ actions.Load 15 3 ∷ []) ∷
+            members.Method (Str (codes "m0")) (actions.SelfTo 2 ∷ actions.Load 3 1 ∷ actions.New 4 (codes "Main") ∷ actions.New 1 (codes "Main") ∷ actions.OnTrue 3 ∷ []) ∷
+            members.Method (Str (codes "m1")) [] ∷
+            members.Method (IntKey (pos 4)) (actions.Load 3 1 ∷ actions.SelfTo 2 ∷ actions.New 5 (codes "U") ∷ actions.New 1 (codes "T") ∷ actions.Load 2 3 ∷ actions.Add 0 (Reg 0) (Reg 1) ∷ actions.Later (codes "t") ∷ actions.Later (codes "v") ∷ actions.Load 2 3 ∷ []) ∷
+            members.Method (Str (codes "m3")) (actions.Load 2 2 ∷ actions.SelfTo 2 ∷ actions.New 4 (codes "U") ∷ actions.Set 3 (Const (values.Int (negsuc 2147483647))) ∷ actions.Construct 0 (Reg 5) (Reg 4 ∷ Reg 0 ∷ []) ∷ []) ∷ []);
+      }) ∷
+      (record {
+        name = codes "T";
+        version = 3;
+        stored = true;
+        members = (
+            members.Method (Str (codes "take")) (actions.SelfTo 2 ∷ actions.Load 2 0 ∷ actions.New 2 (codes "Main") ∷ []) ∷
+            members.Default (actions.Put (Reg 2) (IntKey (pos 7)) (Reg 1) ∷ actions.Invoke 1 (Reg 3) (Str (codes "take")) (Const (values.Text (codes "s")) ∷ Reg 3 ∷ Reg 5 ∷ []) ∷ actions.RequestRead 2 (Const (values.Int (pos 2))) ((record { offset = negsuc 8; length = 3 }) ∷ []) ∷ []) ∷
+            members.Method (Str (codes "m2")) (actions.Return (Reg 2) ∷ actions.Set 0 (Reg 1) ∷ actions.New 5 (codes "T") ∷ actions.Later (codes "t") ∷ actions.Load 4 1 ∷ actions.Slot 1 (Const values.Null) ∷ []) ∷
+            members.Method (IntKey (pos 4)) (actions.Load 2 0 ∷ actions.Load 3 1 ∷ actions.New 2 (codes "U") ∷ []) ∷
+            members.Method (Str (codes "m0")) (actions.Load 3 1 ∷ actions.Note (Reg 3) ∷ actions.Load 2 1 ∷ actions.Invoke 0 (Const (values.Int (pos 14))) (Str (codes "m2")) (Reg 4 ∷ Reg 2 ∷ []) ∷ actions.Later (codes "v") ∷ []) ∷
+            members.Method (Str (codes "m3")) (actions.Load 2 0 ∷ actions.SelfTo 2 ∷ actions.Later (codes "v") ∷ []) ∷
+            members.Method (Str (codes "m1")) (actions.SelfTo 2 ∷ actions.Load 3 1 ∷ actions.Enumerate 0 (Reg 3) ∷ []) ∷ []);
+      }) ∷ []);
+  handlers = (
+      (record { which = handlers.New; body = (actions.New 0 (codes "Main") ∷ actions.Slot 0 (Reg 0) ∷ actions.Window 1 ∷ actions.Slot 1 (Reg 1) ∷ []) }) ∷
+      (record { which = handlers.Scriptable; body = (actions.Load 0 0 ∷ actions.Return (Reg 0) ∷ []) }) ∷
+      (record { which = handlers.NewStream; body = (actions.Return (Const (values.Int (pos 0))) ∷ []) }) ∷
+      (record { which = handlers.WriteReady; body = (actions.Return (Const (values.Int (negsuc 0))) ∷ []) }) ∷
+      (record { which = handlers.Write; body = (actions.Load 2 0 ∷ actions.OnFalse 3 ∷ actions.Invoke 3 (Reg 4) (Str (codes "m3")) (Const (values.Int (pos 14)) ∷ []) ∷ actions.Return (Const (values.Int (pos 3))) ∷ []) }) ∷
+      (record { which = handlers.DestroyStream; body = [] }) ∷
+      (record { which = handlers.UrlNotify; body = [] }) ∷ []);
+  tasks = (
+      (record { name = codes "t"; body = (actions.Load 1 1 ∷ actions.Load 0 3 ∷ actions.SelfTo 2 ∷ actions.Drop 2 ∷ actions.New 4 (codes "Main") ∷ actions.New 5 (codes "T") ∷ actions.Later (codes "u") ∷ actions.Invoke 1 (Reg 1) (Str (codes "m0")) (Const (values.Double (0 ∷ 1 ∷ 2 ∷ 3 ∷ 4 ∷ 5 ∷ 6 ∷ 7 ∷ [])) ∷ Reg 1 ∷ Const values.Void ∷ []) ∷ actions.Load 3 1 ∷ actions.Load 2 2 ∷ actions.New 2 (codes "Main") ∷ actions.Put (Reg 2) (Str (codes "f0")) (Reg 3) ∷ actions.Get 3 (Reg 2) (Str (codes "f0")) ∷ actions.Remove (Reg 2) (Str (codes "f0")) ∷ []) }) ∷
+      (record { name = codes "u"; body = (actions.Load 1 1 ∷ actions.Load 0 0 ∷ actions.Invoke 2 (Reg 3) (Str (codes "m3")) (Reg 4 ∷ Const (values.Bool true) ∷ Reg 0 ∷ []) ∷ actions.Load 1 3 ∷ actions.Invoke 2 (Reg 0) (Str (codes "m3")) (Reg 4 ∷ Reg 3 ∷ Reg 3 ∷ []) ∷ actions.SelfTo 2 ∷ actions.Return (Reg 5) ∷ actions.Slot 2 (Reg 3) ∷ actions.Fail ∷ actions.Return (Reg 2) ∷ []) }) ∷
+      (record { name = codes "v"; body = (actions.Load 1 1 ∷ actions.Load 0 3 ∷ actions.Load 3 2 ∷ actions.Load 2 0 ∷ actions.OnTrue 3 ∷ actions.Invoke 2 (Reg 0) (Str (codes "m1")) (Reg 1 ∷ []) ∷ actions.Load 3 1 ∷ actions.Load 3 1 ∷ actions.Load 0 2 ∷ actions.SelfTo 2 ∷ actions.Set 4 (Reg 3) ∷ []) }) ∷ []);
+}
+
+-- the run of both
+both-end : outcome 1500 page plugin ≡ record {
+  page = (
+      Created (record { side = sides.Page; instance = 1; serial = 1 }) ∷
+      CommandResult 1 (results.Code NoError) ∷
+      CommandResult 2 (results.Yes (values.Object (record { side = sides.Plug; instance = 1; serial = 1 })) false) ∷
+      Created (record { side = sides.Page; instance = 1; serial = 2 }) ∷
+      CommandResult 3 (results.Yes (values.Object (record { side = sides.Page; instance = 1; serial = 2 })) false) ∷
+      Created (record { side = sides.Page; instance = 1; serial = 3 }) ∷
+      CommandResult 4 (results.Yes (values.Object (record { side = sides.Page; instance = 1; serial = 3 })) false) ∷
+      CommandResult 5 results.No ∷
+      CommandResult 6 (results.Yes values.Void false) ∷
+      CommandResult 7 results.No ∷
+      Entered (record { side = sides.Page; instance = 1; serial = 1 }) (ops.Invoke (Str (codes "m0"))) ∷
+      Noted (values.Text (195 ∷ 164 ∷ 34 ∷ 92 ∷ 1 ∷ 127 ∷ [])) false ∷
+      CommandResult 8 (results.Yes values.Void false) ∷
+      CommandResult 9 (results.Yes values.Void false) ∷
+      Entered (record { side = sides.Page; instance = 1; serial = 3 }) (ops.Invoke (Str (codes "m0"))) ∷
+      Noted (values.Text (195 ∷ 164 ∷ 34 ∷ 92 ∷ 1 ∷ 127 ∷ [])) false ∷
+      CommandResult 10 (results.Threw (codes "no")) ∷
+      CommandResult 11 results.No ∷
+      Created (record { side = sides.Page; instance = 2; serial = 1 }) ∷
+      CommandResult 12 (results.Code NoError) ∷
+      Deallocated (record { side = sides.Page; instance = 1; serial = 2 }) ∷
+      CommandResult 13 (results.Yes (values.Object (record { side = sides.Plug; instance = 2; serial = 1 })) false) ∷
+      CommandResult 14 results.No ∷
+      CommandResult 15 (results.Pumped 0) ∷
+      Deallocated (record { side = sides.Page; instance = 1; serial = 3 }) ∷
+      CommandResult 16 results.No ∷
+      Created (record { side = sides.Page; instance = 3; serial = 1 }) ∷
+      CommandResult 17 (results.Code NoError) ∷
+      CommandResult 18 (results.Yes (values.Object (record { side = sides.Plug; instance = 3; serial = 1 })) false) ∷
+      CommandResult 19 (results.Yes values.Void false) ∷
+      CommandResult 20 (results.Yes values.Void false) ∷
+      CommandResult 21 (results.Yes values.Void false) ∷
+      CommandResult 22 (results.Yes values.Void false) ∷
+      CommandResult 23 results.No ∷
+      ProxyGone (record { side = sides.Plug; instance = 1; serial = 1 }) ∷
+      Invalidated (record { side = sides.Page; instance = 1; serial = 1 }) ∷
+      Deallocated (record { side = sides.Page; instance = 1; serial = 1 }) ∷
+      ProxyGone (record { side = sides.Plug; instance = 2; serial = 1 }) ∷
+      Invalidated (record { side = sides.Page; instance = 2; serial = 1 }) ∷
+      Deallocated (record { side = sides.Page; instance = 2; serial = 1 }) ∷
+      ProxyGone (record { side = sides.Plug; instance = 3; serial = 1 }) ∷
+      Invalidated (record { side = sides.Page; instance = 3; serial = 1 }) ∷
+      Deallocated (record { side = sides.Page; instance = 3; serial = 1 }) ∷ []);
+  plugin = (
+      HandlerRun 1 handlers.New ∷
+      Created (record { side = sides.Plug; instance = 1; serial = 1 }) ∷
+      HandlerRun 1 handlers.Scriptable ∷
+      Entered (record { side = sides.Plug; instance = 1; serial = 1 }) (ops.Invoke (IntKey (pos 4))) ∷
+      Created (record { side = sides.Plug; instance = 1; serial = 2 }) ∷
+      Deallocated (record { side = sides.Plug; instance = 1; serial = 2 }) ∷
+      TaskBegun 1 (codes "t") ∷
+      Created (record { side = sides.Plug; instance = 1; serial = 3 }) ∷
+      Created (record { side = sides.Plug; instance = 1; serial = 4 }) ∷
+      Created (record { side = sides.Plug; instance = 1; serial = 5 }) ∷
+      Entered (record { side = sides.Plug; instance = 1; serial = 5 }) (ops.Put (Str (codes "f0"))) ∷
+      Entered (record { side = sides.Plug; instance = 1; serial = 5 }) (ops.Get (Str (codes "f0"))) ∷
+      Entered (record { side = sides.Plug; instance = 1; serial = 5 }) (ops.Remove (Str (codes "f0"))) ∷
+      Deallocated (record { side = sides.Plug; instance = 1; serial = 5 }) ∷
+      Deallocated (record { side = sides.Plug; instance = 1; serial = 3 }) ∷
+      Deallocated (record { side = sides.Plug; instance = 1; serial = 4 }) ∷
+      TaskBegun 1 (codes "v") ∷
+      TaskBegun 1 (codes "u") ∷
+      Entered (record { side = sides.Plug; instance = 1; serial = 1 }) (ops.Invoke (Str (codes "m3"))) ∷
+      Entered (record { side = sides.Plug; instance = 1; serial = 1 }) (ops.Invoke (Str (codes "m1"))) ∷
+      HandlerRun 2 handlers.New ∷
+      Created (record { side = sides.Plug; instance = 2; serial = 1 }) ∷
+      HandlerRun 2 handlers.Scriptable ∷
+      HandlerRun 3 handlers.New ∷
+      Created (record { side = sides.Plug; instance = 3; serial = 1 }) ∷
+      HandlerRun 3 handlers.Scriptable ∷
+      Entered (record { side = sides.Plug; instance = 1; serial = 1 }) (ops.Invoke (Str (codes "m1"))) ∷
+      Entered (record { side = sides.Plug; instance = 1; serial = 1 }) (ops.Invoke (Str (codes "m3"))) ∷
+      Entered (record { side = sides.Plug; instance = 1; serial = 1 }) (ops.Invoke (Str (codes "take"))) ∷
+      Entered (record { side = sides.Plug; instance = 3; serial = 1 }) (ops.Put (Str (codes "f0"))) ∷
+      Invalidated (record { side = sides.Plug; instance = 1; serial = 1 }) ∷
+      Deallocated (record { side = sides.Plug; instance = 1; serial = 1 }) ∷
+      ProxyGone (record { side = sides.Page; instance = 2; serial = 1 }) ∷
+      Invalidated (record { side = sides.Plug; instance = 2; serial = 1 }) ∷
+      Deallocated (record { side = sides.Plug; instance = 2; serial = 1 }) ∷
+      ProxyGone (record { side = sides.Page; instance = 3; serial = 1 }) ∷
+      Invalidated (record { side = sides.Plug; instance = 3; serial = 1 }) ∷
+      Deallocated (record { side = sides.Plug; instance = 3; serial = 1 }) ∷ []);
+  files = [];
+  rests = true;
+}
+unfolding encoding digits is_text is_utf8 chars encode_utf8
+both-end = refl
+
+-- the direct run
+direct-run : direct_outcome 3000 page plugin ≡ record {
+  page = (
+      Created (record { side = sides.Page; instance = 1; serial = 1 }) ∷
+      CommandResult 1 (results.Code NoError) ∷
+      CommandResult 2 (results.Yes (values.Object (record { side = sides.Plug; instance = 1; serial = 1 })) false) ∷
+      Created (record { side = sides.Page; instance = 1; serial = 2 }) ∷
+      CommandResult 3 (results.Yes (values.Object (record { side = sides.Page; instance = 1; serial = 2 })) false) ∷
+      Created (record { side = sides.Page; instance = 1; serial = 3 }) ∷
+      CommandResult 4 (results.Yes (values.Object (record { side = sides.Page; instance = 1; serial = 3 })) false) ∷
+      CommandResult 5 results.No ∷
+      CommandResult 6 (results.Yes values.Void false) ∷
+      CommandResult 7 results.No ∷
+      Entered (record { side = sides.Page; instance = 1; serial = 1 }) (ops.Invoke (Str (codes "m0"))) ∷
+      Noted (values.Text (195 ∷ 164 ∷ 34 ∷ 92 ∷ 1 ∷ 127 ∷ [])) false ∷
+      CommandResult 8 (results.Yes values.Void false) ∷
+      CommandResult 9 (results.Yes values.Void false) ∷
+      Entered (record { side = sides.Page; instance = 1; serial = 3 }) (ops.Invoke (Str (codes "m0"))) ∷
+      Noted (values.Text (195 ∷ 164 ∷ 34 ∷ 92 ∷ 1 ∷ 127 ∷ [])) false ∷
+      CommandResult 10 (results.Threw (codes "no")) ∷
+      CommandResult 11 results.No ∷
+      Created (record { side = sides.Page; instance = 2; serial = 1 }) ∷
+      CommandResult 12 (results.Code NoError) ∷
+      Deallocated (record { side = sides.Page; instance = 1; serial = 2 }) ∷
+      CommandResult 13 (results.Yes (values.Object (record { side = sides.Plug; instance = 2; serial = 1 })) false) ∷
+      CommandResult 14 results.No ∷
+      CommandResult 15 (results.Pumped 0) ∷
+      Deallocated (record { side = sides.Page; instance = 1; serial = 3 }) ∷
+      CommandResult 16 results.No ∷
+      Created (record { side = sides.Page; instance = 3; serial = 1 }) ∷
+      CommandResult 17 (results.Code NoError) ∷
+      CommandResult 18 (results.Yes (values.Object (record { side = sides.Plug; instance = 3; serial = 1 })) false) ∷
+      CommandResult 19 (results.Yes values.Void false) ∷
+      CommandResult 20 (results.Yes values.Void false) ∷
+      CommandResult 21 (results.Yes values.Void false) ∷
+      CommandResult 22 (results.Yes values.Void false) ∷
+      CommandResult 23 results.No ∷
+      ProxyGone (record { side = sides.Plug; instance = 1; serial = 1 }) ∷
+      Invalidated (record { side = sides.Page; instance = 1; serial = 1 }) ∷
+      Deallocated (record { side = sides.Page; instance = 1; serial = 1 }) ∷
+      ProxyGone (record { side = sides.Plug; instance = 2; serial = 1 }) ∷
+      Invalidated (record { side = sides.Page; instance = 2; serial = 1 }) ∷
+      Deallocated (record { side = sides.Page; instance = 2; serial = 1 }) ∷
+      ProxyGone (record { side = sides.Plug; instance = 3; serial = 1 }) ∷
+      Invalidated (record { side = sides.Page; instance = 3; serial = 1 }) ∷
+      Deallocated (record { side = sides.Page; instance = 3; serial = 1 }) ∷ []);
+  plugin = (
+      HandlerRun 1 handlers.New ∷
+      Created (record { side = sides.Plug; instance = 1; serial = 1 }) ∷
+      HandlerRun 1 handlers.Scriptable ∷
+      Entered (record { side = sides.Plug; instance = 1; serial = 1 }) (ops.Invoke (IntKey (pos 4))) ∷
+      Created (record { side = sides.Plug; instance = 1; serial = 2 }) ∷
+      Deallocated (record { side = sides.Plug; instance = 1; serial = 2 }) ∷
+      TaskBegun 1 (codes "t") ∷
+      Created (record { side = sides.Plug; instance = 1; serial = 3 }) ∷
+      Created (record { side = sides.Plug; instance = 1; serial = 4 }) ∷
+      Created (record { side = sides.Plug; instance = 1; serial = 5 }) ∷
+      Entered (record { side = sides.Plug; instance = 1; serial = 5 }) (ops.Put (Str (codes "f0"))) ∷
+      Entered (record { side = sides.Plug; instance = 1; serial = 5 }) (ops.Get (Str (codes "f0"))) ∷
+      Entered (record { side = sides.Plug; instance = 1; serial = 5 }) (ops.Remove (Str (codes "f0"))) ∷
+      Deallocated (record { side = sides.Plug; instance = 1; serial = 5 }) ∷
+      Deallocated (record { side = sides.Plug; instance = 1; serial = 3 }) ∷
+      Deallocated (record { side = sides.Plug; instance = 1; serial = 4 }) ∷
+      TaskBegun 1 (codes "v") ∷
+      TaskBegun 1 (codes "u") ∷
+      Entered (record { side = sides.Plug; instance = 1; serial = 1 }) (ops.Invoke (Str (codes "m3"))) ∷
+      Entered (record { side = sides.Plug; instance = 1; serial = 1 }) (ops.Invoke (Str (codes "m1"))) ∷
+      HandlerRun 2 handlers.New ∷
+      Created (record { side = sides.Plug; instance = 2; serial = 1 }) ∷
+      HandlerRun 2 handlers.Scriptable ∷
+      HandlerRun 3 handlers.New ∷
+      Created (record { side = sides.Plug; instance = 3; serial = 1 }) ∷
+      HandlerRun 3 handlers.Scriptable ∷
+      Entered (record { side = sides.Plug; instance = 1; serial = 1 }) (ops.Invoke (Str (codes "m1"))) ∷
+      Entered (record { side = sides.Plug; instance = 1; serial = 1 }) (ops.Invoke (Str (codes "m3"))) ∷
+      Entered (record { side = sides.Plug; instance = 1; serial = 1 }) (ops.Invoke (Str (codes "take"))) ∷
+      Entered (record { side = sides.Plug; instance = 3; serial = 1 }) (ops.Put (Str (codes "f0"))) ∷
+      Invalidated (record { side = sides.Plug; instance = 1; serial = 1 }) ∷
+      Deallocated (record { side = sides.Plug; instance = 1; serial = 1 }) ∷
+      ProxyGone (record { side = sides.Page; instance = 2; serial = 1 }) ∷
+      Invalidated (record { side = sides.Plug; instance = 2; serial = 1 }) ∷
+      Deallocated (record { side = sides.Plug; instance = 2; serial = 1 }) ∷
+      ProxyGone (record { side = sides.Page; instance = 3; serial = 1 }) ∷
+      Invalidated (record { side = sides.Plug; instance = 3; serial = 1 }) ∷
+      Deallocated (record { side = sides.Plug; instance = 3; serial = 1 }) ∷ []);
+  files = [];
+  rests = true;
+}
+unfolding encoding digits is_text is_utf8 chars encode_utf8
+direct-run = refl
+
+-- each message is delivered at once, and none is refused
+orderly-in-rounds : orderly_along (sides.Page ∷ sides.Plug ∷ []) 700 page plugin ≡ true
+unfolding encoding digits is_text is_utf8 chars encode_utf8
+orderly-in-rounds = refl
+
+-- each message is delivered at once, and none is refused
+orderly-page-ahead : orderly_along (sides.Page ∷ sides.Page ∷ sides.Page ∷ sides.Page ∷ sides.Page ∷ sides.Page ∷ sides.Plug ∷ []) 200 page plugin ≡ true
+unfolding encoding digits is_text is_utf8 chars encode_utf8
+orderly-page-ahead = refl
+
+-- each message is delivered at once, and none is refused
+orderly-plugin-ahead : orderly_along (sides.Page ∷ sides.Plug ∷ sides.Plug ∷ sides.Plug ∷ sides.Plug ∷ sides.Plug ∷ sides.Plug ∷ []) 200 page plugin ≡ true
+unfolding encoding digits is_text is_utf8 chars encode_utf8
+orderly-plugin-ahead = refl
+
+-- all bytes that the page sends
+page-sends : page_bytes 1500 page plugin ≡ (0 ∷ 0 ∷ 0 ∷ 7 ∷ 1 ∷ 1 ∷ 0 ∷ 0 ∷ 1 ∷ 0 ∷ 27 ∷ 0 ∷ 0 ∷ 0 ∷ 30 ∷ 2 ∷ 1 ∷ 0 ∷ 0 ∷ 1 ∷ 1 ∷ 0 ∷ 3 ∷ 116 ∷ 47 ∷ 120 ∷ 3 ∷ 0 ∷ 1 ∷ 97 ∷ 0 ∷ 1 ∷ 49 ∷ 0 ∷ 1 ∷ 97 ∷ 0 ∷ 1 ∷ 49 ∷ 0 ∷ 1 ∷ 97 ∷ 0 ∷ 1 ∷ 49 ∷ 0 ∷ 0 ∷ 0 ∷ 11 ∷ 65 ∷ 2 ∷ 0 ∷ 0 ∷ 6 ∷ 0 ∷ 1 ∷ 0 ∷ 0 ∷ 0 ∷ 1 ∷ 0 ∷ 0 ∷ 0 ∷ 5 ∷ 4 ∷ 1 ∷ 0 ∷ 0 ∷ 1 ∷ 0 ∷ 0 ∷ 0 ∷ 16 ∷ 64 ∷ 1 ∷ 0 ∷ 0 ∷ 1 ∷ 0 ∷ 0 ∷ 0 ∷ 1 ∷ 1 ∷ 1 ∷ 0 ∷ 0 ∷ 0 ∷ 4 ∷ 0 ∷ 0 ∷ 0 ∷ 0 ∷ 17 ∷ 64 ∷ 1 ∷ 0 ∷ 0 ∷ 1 ∷ 0 ∷ 0 ∷ 0 ∷ 1 ∷ 1 ∷ 0 ∷ 0 ∷ 2 ∷ 109 ∷ 50 ∷ 1 ∷ 0 ∷ 0 ∷ 0 ∷ 0 ∷ 8 ∷ 67 ∷ 129 ∷ 0 ∷ 0 ∷ 0 ∷ 2 ∷ 110 ∷ 111 ∷ 0 ∷ 0 ∷ 0 ∷ 16 ∷ 64 ∷ 1 ∷ 0 ∷ 0 ∷ 1 ∷ 0 ∷ 0 ∷ 0 ∷ 1 ∷ 1 ∷ 0 ∷ 0 ∷ 2 ∷ 109 ∷ 49 ∷ 0 ∷ 0 ∷ 0 ∷ 0 ∷ 12 ∷ 2 ∷ 1 ∷ 0 ∷ 0 ∷ 2 ∷ 2 ∷ 0 ∷ 3 ∷ 116 ∷ 47 ∷ 121 ∷ 0 ∷ 0 ∷ 0 ∷ 0 ∷ 11 ∷ 65 ∷ 2 ∷ 0 ∷ 0 ∷ 6 ∷ 0 ∷ 2 ∷ 0 ∷ 0 ∷ 0 ∷ 1 ∷ 0 ∷ 0 ∷ 0 ∷ 5 ∷ 4 ∷ 1 ∷ 0 ∷ 0 ∷ 2 ∷ 0 ∷ 0 ∷ 0 ∷ 31 ∷ 64 ∷ 1 ∷ 0 ∷ 0 ∷ 1 ∷ 0 ∷ 0 ∷ 0 ∷ 1 ∷ 1 ∷ 0 ∷ 0 ∷ 2 ∷ 109 ∷ 50 ∷ 3 ∷ 0 ∷ 6 ∷ 0 ∷ 1 ∷ 0 ∷ 0 ∷ 0 ∷ 3 ∷ 6 ∷ 0 ∷ 1 ∷ 0 ∷ 0 ∷ 0 ∷ 3 ∷ 0 ∷ 0 ∷ 0 ∷ 12 ∷ 2 ∷ 1 ∷ 0 ∷ 0 ∷ 3 ∷ 2 ∷ 0 ∷ 3 ∷ 116 ∷ 47 ∷ 121 ∷ 0 ∷ 0 ∷ 0 ∷ 0 ∷ 11 ∷ 65 ∷ 2 ∷ 0 ∷ 0 ∷ 6 ∷ 0 ∷ 3 ∷ 0 ∷ 0 ∷ 0 ∷ 1 ∷ 0 ∷ 0 ∷ 0 ∷ 5 ∷ 4 ∷ 1 ∷ 0 ∷ 0 ∷ 3 ∷ 0 ∷ 0 ∷ 0 ∷ 31 ∷ 64 ∷ 1 ∷ 0 ∷ 0 ∷ 1 ∷ 0 ∷ 0 ∷ 0 ∷ 1 ∷ 1 ∷ 0 ∷ 0 ∷ 2 ∷ 109 ∷ 49 ∷ 3 ∷ 6 ∷ 1 ∷ 3 ∷ 0 ∷ 0 ∷ 0 ∷ 1 ∷ 6 ∷ 1 ∷ 2 ∷ 0 ∷ 0 ∷ 0 ∷ 1 ∷ 0 ∷ 0 ∷ 0 ∷ 0 ∷ 4 ∷ 5 ∷ 1 ∷ 0 ∷ 0 ∷ 0 ∷ 0 ∷ 0 ∷ 31 ∷ 64 ∷ 1 ∷ 0 ∷ 0 ∷ 1 ∷ 0 ∷ 0 ∷ 0 ∷ 1 ∷ 1 ∷ 0 ∷ 0 ∷ 2 ∷ 109 ∷ 51 ∷ 3 ∷ 6 ∷ 1 ∷ 3 ∷ 0 ∷ 0 ∷ 0 ∷ 1 ∷ 6 ∷ 1 ∷ 2 ∷ 0 ∷ 0 ∷ 0 ∷ 1 ∷ 0 ∷ 0 ∷ 0 ∷ 0 ∷ 34 ∷ 64 ∷ 1 ∷ 0 ∷ 0 ∷ 1 ∷ 0 ∷ 0 ∷ 0 ∷ 1 ∷ 1 ∷ 0 ∷ 0 ∷ 4 ∷ 116 ∷ 97 ∷ 107 ∷ 101 ∷ 3 ∷ 6 ∷ 1 ∷ 3 ∷ 0 ∷ 0 ∷ 0 ∷ 1 ∷ 2 ∷ 0 ∷ 6 ∷ 1 ∷ 1 ∷ 0 ∷ 0 ∷ 0 ∷ 1 ∷ 0 ∷ 0 ∷ 0 ∷ 5 ∷ 69 ∷ 2 ∷ 0 ∷ 0 ∷ 0 ∷ 0 ∷ 0 ∷ 0 ∷ 19 ∷ 64 ∷ 1 ∷ 0 ∷ 0 ∷ 3 ∷ 0 ∷ 0 ∷ 0 ∷ 1 ∷ 1 ∷ 0 ∷ 0 ∷ 2 ∷ 109 ∷ 50 ∷ 3 ∷ 0 ∷ 0 ∷ 0 ∷ 0 ∷ 0 ∷ 0 ∷ 5 ∷ 3 ∷ 1 ∷ 0 ∷ 0 ∷ 1 ∷ 0 ∷ 0 ∷ 0 ∷ 5 ∷ 3 ∷ 1 ∷ 0 ∷ 0 ∷ 2 ∷ 0 ∷ 0 ∷ 0 ∷ 5 ∷ 3 ∷ 1 ∷ 0 ∷ 0 ∷ 3 ∷ 0 ∷ 0 ∷ 0 ∷ 4 ∷ 12 ∷ 1 ∷ 0 ∷ 0 ∷ [])
+unfolding encoding digits is_text is_utf8 chars encode_utf8
+page-sends = refl
+
+-- all bytes that the plugin sends
+plugin-sends : plugin_bytes 1500 page plugin ≡ (0 ∷ 0 ∷ 0 ∷ 5 ∷ 69 ∷ 1 ∷ 0 ∷ 0 ∷ 0 ∷ 0 ∷ 0 ∷ 0 ∷ 5 ∷ 32 ∷ 2 ∷ 0 ∷ 0 ∷ 1 ∷ 0 ∷ 0 ∷ 0 ∷ 5 ∷ 69 ∷ 1 ∷ 0 ∷ 0 ∷ 0 ∷ 0 ∷ 0 ∷ 0 ∷ 11 ∷ 65 ∷ 1 ∷ 0 ∷ 0 ∷ 6 ∷ 1 ∷ 1 ∷ 0 ∷ 0 ∷ 0 ∷ 1 ∷ 0 ∷ 0 ∷ 0 ∷ 5 ∷ 65 ∷ 1 ∷ 0 ∷ 0 ∷ 0 ∷ 0 ∷ 0 ∷ 0 ∷ 33 ∷ 64 ∷ 129 ∷ 0 ∷ 0 ∷ 1 ∷ 0 ∷ 0 ∷ 0 ∷ 1 ∷ 1 ∷ 0 ∷ 0 ∷ 2 ∷ 109 ∷ 48 ∷ 3 ∷ 4 ∷ 0 ∷ 1 ∷ 2 ∷ 3 ∷ 4 ∷ 5 ∷ 6 ∷ 7 ∷ 6 ∷ 0 ∷ 1 ∷ 0 ∷ 0 ∷ 0 ∷ 1 ∷ 0 ∷ 0 ∷ 0 ∷ 0 ∷ 4 ∷ 66 ∷ 1 ∷ 0 ∷ 0 ∷ 0 ∷ 0 ∷ 0 ∷ 5 ∷ 65 ∷ 1 ∷ 0 ∷ 0 ∷ 0 ∷ 0 ∷ 0 ∷ 0 ∷ 5 ∷ 32 ∷ 2 ∷ 0 ∷ 0 ∷ 2 ∷ 0 ∷ 0 ∷ 0 ∷ 5 ∷ 69 ∷ 1 ∷ 0 ∷ 0 ∷ 0 ∷ 0 ∷ 0 ∷ 0 ∷ 11 ∷ 65 ∷ 1 ∷ 0 ∷ 0 ∷ 6 ∷ 1 ∷ 2 ∷ 0 ∷ 0 ∷ 0 ∷ 1 ∷ 0 ∷ 0 ∷ 0 ∷ 13 ∷ 66 ∷ 1 ∷ 0 ∷ 1 ∷ 1 ∷ 0 ∷ 0 ∷ 0 ∷ 3 ∷ 0 ∷ 0 ∷ 0 ∷ 2 ∷ 0 ∷ 0 ∷ 0 ∷ 5 ∷ 32 ∷ 2 ∷ 0 ∷ 0 ∷ 3 ∷ 0 ∷ 0 ∷ 0 ∷ 5 ∷ 69 ∷ 1 ∷ 0 ∷ 0 ∷ 0 ∷ 0 ∷ 0 ∷ 0 ∷ 11 ∷ 65 ∷ 1 ∷ 0 ∷ 0 ∷ 6 ∷ 1 ∷ 3 ∷ 0 ∷ 0 ∷ 0 ∷ 1 ∷ 0 ∷ 0 ∷ 0 ∷ 5 ∷ 65 ∷ 1 ∷ 0 ∷ 0 ∷ 0 ∷ 0 ∷ 0 ∷ 0 ∷ 4 ∷ 71 ∷ 1 ∷ 0 ∷ 0 ∷ 0 ∷ 0 ∷ 0 ∷ 5 ∷ 65 ∷ 1 ∷ 0 ∷ 0 ∷ 0 ∷ 0 ∷ 0 ∷ 0 ∷ 12 ∷ 33 ∷ 2 ∷ 0 ∷ 0 ∷ 1 ∷ 0 ∷ 1 ∷ 114 ∷ 0 ∷ 0 ∷ 0 ∷ 3 ∷ 0 ∷ 0 ∷ 0 ∷ 14 ∷ 65 ∷ 1 ∷ 0 ∷ 1 ∷ 1 ∷ 0 ∷ 0 ∷ 0 ∷ 1 ∷ 0 ∷ 0 ∷ 0 ∷ 1 ∷ 0 ∷ 0 ∷ 0 ∷ 0 ∷ 4 ∷ 66 ∷ 1 ∷ 0 ∷ 0 ∷ 0 ∷ 0 ∷ 0 ∷ 5 ∷ 69 ∷ 1 ∷ 0 ∷ 0 ∷ 0 ∷ 0 ∷ 0 ∷ 0 ∷ 5 ∷ 69 ∷ 1 ∷ 0 ∷ 0 ∷ 0 ∷ 0 ∷ 0 ∷ 0 ∷ 5 ∷ 69 ∷ 1 ∷ 0 ∷ 0 ∷ 0 ∷ 0 ∷ 0 ∷ 0 ∷ 4 ∷ 71 ∷ 1 ∷ 0 ∷ 0 ∷ [])
+unfolding encoding digits is_text is_utf8 chars encode_utf8
+plugin-sends = refl

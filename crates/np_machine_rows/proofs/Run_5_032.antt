@@ -1,0 +1,349 @@
+-- Made by tools/vector-theorems of tests/vectors/5-032.
+use Rattle.std.proofs.Common.{◌≡◌, pos, negsuc, [], ◌∷◌, refl, true, false, Some}
+use Rattle.std.specs.Prelude.{codes}
+use Rattle.std.specs.Char.{encode_utf8}
+use Rattle.std.specs.Fmt.{digits}
+use Rattle.std.specs.Str.{is_utf8, chars}
+use Rattle.np_values.specs.declared.error.NpError.TheVariants.{NoError}
+use Rattle.np_values.specs.declared.handler.Handler.TheVariants as handlers
+use Rattle.np_values.specs.declared.name.Side.TheVariants as sides
+use Rattle.np_values.specs.declared.value.Value.TheVariants as values
+use Rattle.np_values.specs.Text.{is_text}
+use Rattle.np_idents.specs.declared.key.IdKey.TheVariants.{Str, Int as IntKey}
+use Rattle.np_idents.specs.declared.op.Op.TheVariants as ops
+use Rattle.np_script_grammar.specs.declared.action.Action.TheVariants as actions
+use Rattle.np_script_grammar.specs.declared.action.Operand.TheVariants.{Reg, Const}
+use Rattle.np_script_grammar.specs.declared.class.Member.TheVariants as members
+use Rattle.np_script_grammar.specs.declared.command.Command.TheVariants as commands
+use Rattle.np_script_grammar.specs.declared.page.Page.{Page}
+use Rattle.np_script_grammar.specs.declared.plugin.Plugin.{Plugin}
+use Rattle.np_message.specs.Encoding.{encoding}
+use Rattle.np_journal.specs.declared.line.Line.TheVariants.{Created, Entered, HandlerRun, ProxyGone, Invalidated, Deallocated, Noted, CommandResult}
+use Rattle.np_journal.specs.declared.printed.Printed.TheVariants as results
+use Rattle.np_machine_plans.specs.Outcomes.{outcome, page_bytes, plugin_bytes, lost_outcome}
+
+abbrev page : Page
+page = record {
+  major = 0;
+  minor = 27;
+  classes = (
+      (record {
+        name = codes "Window";
+        version = 3;
+        stored = true;
+        members = (
+            members.Method (Str (codes "m1")) (actions.SelfTo 2 ∷ actions.Get 3 (Reg 3) (IntKey (pos 7)) ∷ actions.New 3 (codes "B") ∷ actions.Load 1 3 ∷ actions.Load 1 2 ∷ actions.Note (Reg 2) ∷ []) ∷
+            members.Method (Str (codes "m3")) (actions.Load 3 2 ∷ actions.Load 3 1 ∷ actions.Slot 2 (Reg 0) ∷ actions.Enumerate 3 (Reg 1) ∷ actions.Invoke 3 (Reg 0) (IntKey (pos 4)) (Reg 1 ∷ Reg 3 ∷ Reg 5 ∷ []) ∷ []) ∷
+            members.Method (Str (codes "m2")) (actions.New 2 (codes "A") ∷ actions.New 1 (codes "B") ∷ actions.New 2 (codes "A") ∷ actions.Put (Reg 2) (Str (codes "f0")) (Reg 1) ∷ actions.Return (Reg 2) ∷ []) ∷
+            members.Getter (Str (codes "f1")) (actions.Load 3 1 ∷ actions.Load 2 0 ∷ actions.Add 0 (Reg 0) (Const (values.Bool true)) ∷ actions.Slot 0 (Const (values.Int (pos 0))) ∷ []) ∷
+            members.Method (Str (codes "take")) (actions.Load 2 0 ∷ actions.New 3 (codes "Window") ∷ []) ∷
+            members.Method (Str (codes "m0")) (actions.Load 5 2 ∷ actions.New 1 (codes "B") ∷ actions.Invoke 1 (Reg 1) (Str (codes "take")) (Reg 3 ∷ Reg 1 ∷ Reg 1 ∷ []) ∷ actions.New 5 (codes "A") ∷ actions.Invoke 2 (Reg 0) (Str (codes "m2")) [] ∷ actions.Invoke 0 (Reg 2) (Str (codes "m2")) [] ∷ actions.New 2 (codes "Window") ∷ actions.Load 2 1 ∷ actions.Get 3 (Reg 0) (Str (codes "f1")) ∷ actions.Put (Reg 3) (Str (codes "f0")) (Reg 0) ∷ actions.New 2 (codes "Window") ∷ actions.Load 0 1 ∷ actions.Set 0 (Reg 2) ∷ []) ∷
+            members.Method (IntKey (pos 4)) (actions.Load 3 2 ∷ actions.Load 3 1 ∷ actions.Get 0 (Reg 3) (Str (codes "f0")) ∷ actions.New 0 (codes "B") ∷ actions.Invoke 2 (Reg 2) (Str (codes "take")) (Reg 3 ∷ Const (values.Int (pos 13)) ∷ []) ∷ actions.New 2 (codes "B") ∷ actions.Load 1 1 ∷ actions.Put (Reg 0) (Str (codes "f1")) (Reg 1) ∷ actions.New 1 (codes "B") ∷ actions.New 3 (codes "B") ∷ actions.Slot 2 (Reg 2) ∷ []) ∷
+            members.Setter (Str (codes "f0")) (actions.Invoke 2 (Reg 0) (IntKey (pos 4)) (Reg 0 ∷ Const values.Void ∷ Reg 0 ∷ []) ∷ actions.HasProperty (Const (values.Int (pos 0))) (Str (codes "f0")) ∷ actions.Load 2 3 ∷ actions.New 3 (codes "Window") ∷ actions.Slot 2 (Reg 1) ∷ actions.Drop 0 ∷ actions.Load 0 1 ∷ []) ∷ []);
+      }) ∷
+      (record {
+        name = codes "A";
+        version = 3;
+        stored = true;
+        members = (
+            members.Method (Str (codes "take")) (actions.SelfTo 2 ∷ actions.SelfTo 3 ∷ actions.OnTrue 3 ∷ actions.Put (Const (values.Int (negsuc 2147483647))) (Str (codes "7")) (Reg 2) ∷ actions.New 2 (codes "Window") ∷ actions.New 3 (codes "A") ∷ actions.Slot 2 (Reg 0) ∷ actions.New 0 (codes "Window") ∷ actions.OnEq (Reg 3) (Reg 1) 1 ∷ []) ∷
+            members.Getter (Str (codes "f1")) (actions.Load 2 0 ∷ actions.Slot 0 (Reg 0) ∷ actions.Put (Reg 3) (Str (codes "f1")) (Reg 3) ∷ actions.Load 3 0 ∷ actions.Set 0 (Reg 1) ∷ actions.Slot 3 (Reg 3) ∷ actions.Invoke 2 (Reg 2) (Str (codes "take")) (Reg 1 ∷ Const (values.Text (codes "e")) ∷ []) ∷ actions.Load 0 3 ∷ actions.Load 1 0 ∷ []) ∷
+            members.Construct (actions.SelfTo 2 ∷ actions.New 4 (codes "B") ∷ actions.OnFalse 2 ∷ actions.New 3 (codes "B") ∷ actions.New 5 (codes "Window") ∷ actions.Enumerate 2 (Reg 2) ∷ actions.Slot 3 (Reg 0) ∷ []) ∷
+            members.Method (Str (codes "m0")) (actions.Load 3 1 ∷ actions.New 2 (codes "A") ∷ actions.New 0 (codes "Window") ∷ actions.Load 2 0 ∷ actions.Load 2 0 ∷ actions.Slot 1 (Reg 1) ∷ actions.Load 0 1 ∷ actions.Slot 3 (Const (values.Bool true)) ∷ actions.Drop 2 ∷ []) ∷
+            members.Method (Str (codes "m2")) (actions.Invoke 3 (Reg 2) (IntKey (pos 4)) (Const (values.Bool true) ∷ Reg 3 ∷ Reg 7 ∷ []) ∷ actions.Invoke 0 (Reg 0) (Str (codes "take")) (Const (values.Bool true) ∷ Reg 2 ∷ []) ∷ actions.Invoke 3 (Reg 3) (Str (codes "m1")) (Reg 1 ∷ Const (values.Bool false) ∷ []) ∷ actions.Put (Reg 0) (Str (codes "7")) (Reg 2) ∷ actions.Invoke 2 (Reg 1) (Str (codes "take")) (Reg 0 ∷ Reg 3 ∷ Reg 2 ∷ []) ∷ actions.New 3 (codes "Window") ∷ actions.Put (Reg 3) (Str (codes "f0")) (Reg 2) ∷ actions.Slot 3 (Reg 3) ∷ actions.Drop 3 ∷ []) ∷
+            members.Method (Str (codes "m1")) (actions.Load 3 2 ∷ actions.Load 3 1 ∷ actions.New 3 (codes "A") ∷ actions.Slot 3 (Reg 1) ∷ []) ∷
+            members.Method (IntKey (pos 4)) [] ∷ []);
+      }) ∷
+      (record {
+        name = codes "B";
+        version = 3;
+        stored = true;
+        members = (
+            members.Construct (actions.Load 3 2 ∷ actions.Load 3 1 ∷ actions.Put (Reg 3) (Str (codes "f0")) (Reg 0) ∷ actions.New 4 (codes "Window") ∷ actions.New 1 (codes "A") ∷ actions.HasProperty (Reg 1) (Str (codes "f1")) ∷ actions.Set 3 (Reg 2) ∷ actions.Load 5 0 ∷ actions.Put (Reg 1) (IntKey (pos 7)) (Reg 2) ∷ actions.SelfTo 4 ∷ actions.Load 4 2 ∷ actions.Put (Reg 3) (Str (codes "f0")) (Reg 2) ∷ actions.Slot 2 (Reg 1) ∷ []) ∷
+            members.Method (Str (codes "m1")) (actions.Slot 1 (Reg 2) ∷ actions.Note (Reg 2) ∷ actions.Load 0 2 ∷ actions.New 3 (codes "Window") ∷ actions.Note (Reg 0) ∷ actions.New 4 (codes "B") ∷ actions.Put (Reg 4) (Str (codes "f0")) (Reg 1) ∷ actions.Put (Reg 4) (Str (codes "f1")) (Reg 4) ∷ actions.Slot 2 (Reg 4) ∷ actions.Enumerate 1 (Reg 4) ∷ []) ∷
+            members.Method (Str (codes "m0")) (actions.Load 3 1 ∷ actions.SelfTo 2 ∷ actions.New 2 (codes "A") ∷ []) ∷
+            members.Method (Str (codes "m3")) (actions.SelfTo 2 ∷ actions.Load 2 0 ∷ actions.New 3 (codes "A") ∷ actions.New 2 (codes "B") ∷ actions.New 1 (codes "Window") ∷ actions.Invoke 1 (Reg 2) (IntKey (pos 4)) (Reg 0 ∷ Reg 3 ∷ Reg 5 ∷ []) ∷ []) ∷
+            members.Default (actions.Load 3 1 ∷ actions.Load 0 2 ∷ actions.New 5 (codes "A") ∷ actions.New 4 (codes "Window") ∷ actions.Slot 1 (Reg 3) ∷ actions.Load 1 2 ∷ actions.Throw [] ∷ []) ∷
+            members.Setter (Str (codes "f0")) (actions.New 2 (codes "Window") ∷ actions.New 1 (codes "B") ∷ []) ∷
+            members.Method (Str (codes "take")) [] ∷
+            members.Getter (Str (codes "f0")) (actions.New 1 (codes "B") ∷ []) ∷
+            members.Method (IntKey (pos 4)) (actions.Load 0 2 ∷ actions.SelfTo 2 ∷ actions.New 2 (codes "Window") ∷ actions.Load 2 0 ∷ actions.Return (Reg 0) ∷ actions.New 3 (codes "A") ∷ actions.Invoke 2 (Reg 2) (Str (codes "take")) (Reg 0 ∷ Const values.Void ∷ []) ∷ actions.Slot 0 (Reg 0) ∷ actions.Return (Reg 1) ∷ actions.OnEq (Reg 0) (Reg 1) 3 ∷ actions.Load 2 0 ∷ actions.New 4 (codes "Window") ∷ actions.Put (Reg 4) (Str (codes "f1")) (Reg 5) ∷ actions.New 5 (codes "B") ∷ actions.Put (Reg 4) (IntKey (pos 7)) (Reg 4) ∷ actions.Drop 5 ∷ []) ∷
+            members.Method (Str (codes "m2")) (actions.Load 2 2 ∷ actions.Invoke 3 (Reg 3) (Str (codes "m3")) (Reg 3 ∷ Reg 2 ∷ []) ∷ actions.Throw [] ∷ actions.Invoke 1 (Reg 1) (Str (codes "m0")) (Reg 1 ∷ Reg 0 ∷ Const (values.Double (0 ∷ 1 ∷ 2 ∷ 3 ∷ 4 ∷ 5 ∷ 6 ∷ 7 ∷ [])) ∷ Reg 2 ∷ Reg 0 ∷ Reg 1 ∷ Const (values.Int (pos 100)) ∷ Reg 0 ∷ []) ∷ actions.New 4 (codes "B") ∷ actions.Put (Reg 4) (Str (codes "f1")) (Reg 0) ∷ actions.Get 0 (Reg 4) (Str (codes "f1")) ∷ actions.Remove (Reg 4) (Str (codes "f1")) ∷ actions.Invoke 1 (Reg 3) (IntKey (pos 4)) (Reg 0 ∷ Reg 1 ∷ []) ∷ []) ∷ []);
+      }) ∷ []);
+  resources = [];
+  commands = (
+      commands.Create (codes "t/x") 1 [] ∷
+      commands.Scriptable 0 1 ∷
+      commands.Create (codes "t/x") 1 [] ∷
+      commands.Scriptable 1 2 ∷
+      commands.New 2 1 (codes "Window") ∷
+      commands.New 3 2 (codes "B") ∷
+      commands.Invoke 5 (Reg 1) (Str (codes "m2")) (Reg 1 ∷ Reg 0 ∷ Reg 3 ∷ []) ∷
+      commands.Invoke 4 (Reg 4) (Str (codes "m0")) (Reg 3 ∷ Reg 2 ∷ Reg 0 ∷ []) ∷
+      commands.Invoke 5 (Reg 0) (Str (codes "take")) (Const values.Void ∷ Reg 4 ∷ Reg 1 ∷ []) ∷
+      commands.Drop 0 ∷
+      commands.Invoke 2 (Reg 2) (Str (codes "m3")) (Reg 4 ∷ Reg 2 ∷ Reg 0 ∷ []) ∷
+      commands.Invoke 5 (Reg 1) (Str (codes "m2")) (Reg 5 ∷ []) ∷
+      commands.Drop 5 ∷
+      commands.Invoke 5 (Reg 1) (Str (codes "m1")) [] ∷
+      commands.Turn ∷
+      commands.Invoke 4 (Reg 0) (IntKey (pos 4)) (Reg 4 ∷ Reg 5 ∷ Reg 2 ∷ []) ∷
+      commands.Invoke 4 (Reg 1) (Str (codes "m0")) (Reg 1 ∷ Reg 5 ∷ Reg 2 ∷ []) ∷ []);
+}
+
+abbrev plugin : Plugin
+plugin = record {
+  major = 0;
+  minor = 27;
+  classes = (
+      (record {
+        name = codes "Main";
+        version = 3;
+        stored = true;
+        members = (
+            members.Method (Str (codes "take")) (actions.Load 2 0 ∷ actions.Note (Reg 3) ∷ actions.Put (Reg 2) (Str (codes "f1")) (Reg 1) ∷ actions.OnTrue 3 ∷ actions.Note (Const values.Null) ∷ actions.SelfTo 3 ∷ actions.Window 1 ∷ actions.Window 2 ∷ []) ∷
+            members.Method (Str (codes "m0")) (actions.SelfTo 2 ∷ actions.Load 3 1 ∷ actions.New 2 (codes "U") ∷ actions.New 1 (codes "U") ∷ actions.Invoke 3 (Reg 13) (Str (codes "m1")) (Const (values.Bool true) ∷ Reg 2 ∷ Reg 0 ∷ []) ∷ actions.OnEq (Reg 2) (Reg 3) 2 ∷ actions.New 5 (codes "Main") ∷ actions.Load 4 2 ∷ actions.Invoke 2 (Reg 0) (Str (codes "m2")) (Reg 2 ∷ Reg 2 ∷ []) ∷ []) ∷
+            members.Method (Str (codes "m3")) (actions.Load 3 2 ∷ actions.New 4 (codes "U") ∷ actions.Invoke 3 (Reg 0) (Str (codes "take")) (Reg 2 ∷ Reg 2 ∷ Reg 2 ∷ []) ∷ actions.Slot 2 (Const (values.Int (negsuc 2147483647))) ∷ actions.OnFalse 3 ∷ []) ∷
+            members.Setter (Str (codes "f0")) (actions.SelfTo 2 ∷ actions.Load 3 1 ∷ actions.New 2 (codes "Main") ∷ actions.Invoke 2 (Reg 3) (IntKey (pos 4)) (Const (values.Bool true) ∷ Reg 9 ∷ Reg 0 ∷ []) ∷ actions.New 5 (codes "T") ∷ actions.New 1 (codes "Main") ∷ actions.Invoke 1 (Reg 2) (Str (codes "take")) (Reg 0 ∷ Reg 0 ∷ []) ∷ actions.Slot 0 (Reg 1) ∷ []) ∷
+            members.Method (Str (codes "m2")) (actions.Load 2 0 ∷ actions.Put (Reg 2) (IntKey (pos 7)) (Reg 1) ∷ actions.Window 1 ∷ actions.Invoke 0 (Reg 0) (Str (codes "take")) (Reg 1 ∷ Reg 3 ∷ []) ∷ []) ∷
+            members.Construct (actions.Load 3 1 ∷ actions.Load 2 0 ∷ actions.Invoke 2 (Reg 0) (IntKey (pos 4)) (Reg 0 ∷ Reg 1 ∷ Reg 1 ∷ []) ∷ actions.Slot 1 (Reg 3) ∷ actions.Window 2 ∷ actions.New 0 (codes "T") ∷ actions.Invoke 0 (Reg 0) (Str (codes "take")) (Reg 1 ∷ Reg 3 ∷ Reg 3 ∷ []) ∷ actions.Slot 2 (Reg 12) ∷ actions.Add 1 (Reg 0) (Reg 3) ∷ actions.Put (Reg 0) (Str (codes "f0")) (Reg 1) ∷ actions.Load 1 3 ∷ []) ∷
+            members.Method (Str (codes "m1")) (actions.Window 2 ∷ actions.New 3 (codes "T") ∷ actions.Invoke 1 (Reg 0) (IntKey (pos 4)) (Reg 1 ∷ Const (values.Int (negsuc 0)) ∷ []) ∷ []) ∷
+            members.Method (IntKey (pos 4)) (actions.Load 0 2 ∷ actions.Load 2 0 ∷ actions.OnFalse 2 ∷ actions.Invoke 2 (Reg 1) (Str (codes "take")) (Reg 0 ∷ Const (values.Int (pos 100)) ∷ Const (values.Int (pos 2147483647)) ∷ []) ∷ actions.Window 0 ∷ []) ∷ []);
+      }) ∷
+      (record {
+        name = codes "T";
+        version = 2;
+        stored = true;
+        members = (
+            members.Method (Str (codes "take")) (actions.Put (Reg 2) (IntKey (pos 7)) (Reg 2) ∷ actions.OnTrue 1 ∷ actions.Invoke 0 (Reg 3) (Str (codes "none")) (Reg 3 ∷ Reg 3 ∷ []) ∷ actions.New 1 (codes "Main") ∷ actions.Load 3 0 ∷ actions.Remove (Reg 3) (Str (codes "f0")) ∷ actions.Invoke 2 (Reg 3) (Str (codes "none")) (Reg 2 ∷ Reg 2 ∷ []) ∷ actions.Load 2 1 ∷ []) ∷
+            members.Getter (Str (codes "f0")) (actions.SelfTo 2 ∷ actions.Load 2 0 ∷ actions.New 5 (codes "T") ∷ actions.Slot 0 (Reg 1) ∷ actions.New 1 (codes "U") ∷ actions.SelfTo 1 ∷ actions.Load 3 1 ∷ actions.Get 1 (Reg 1) (Str (codes "f0")) ∷ actions.Slot 0 (Reg 1) ∷ actions.Invoke 1 (Reg 2) (Str (codes "take")) (Reg 2 ∷ Const (values.Double (0 ∷ 1 ∷ 2 ∷ 3 ∷ 4 ∷ 5 ∷ 6 ∷ 7 ∷ [])) ∷ []) ∷ []) ∷
+            members.Method (Str (codes "m2")) (actions.Load 0 2 ∷ actions.SelfTo 2 ∷ actions.New 4 (codes "T") ∷ actions.New 2 (codes "Main") ∷ actions.New 3 (codes "Main") ∷ actions.Window 1 ∷ actions.Window 3 ∷ []) ∷
+            members.Method (Str (codes "m1")) (actions.Load 2 2 ∷ actions.Load 2 2 ∷ actions.New 2 (codes "T") ∷ actions.New 3 (codes "U") ∷ actions.Load 1 1 ∷ []) ∷
+            members.Method (Str (codes "m3")) (actions.Load 2 1 ∷ actions.New 2 (codes "Main") ∷ actions.Slot 1 (Reg 2) ∷ []) ∷
+            members.Method (IntKey (pos 4)) (actions.Load 2 2 ∷ actions.Invoke 3 (Reg 1) (Str (codes "take")) (Reg 2 ∷ Reg 1 ∷ Reg 0 ∷ []) ∷ actions.Slot 0 (Reg 0) ∷ actions.New 2 (codes "Main") ∷ actions.Invoke 14 (Reg 2) (Str (codes "take")) (Reg 2 ∷ Const (values.Double (0 ∷ 1 ∷ 2 ∷ 3 ∷ 4 ∷ 5 ∷ 6 ∷ 7 ∷ [])) ∷ Reg 3 ∷ Reg 1 ∷ Reg 0 ∷ Reg 0 ∷ Reg 1 ∷ Reg 2 ∷ []) ∷ actions.New 4 (codes "U") ∷ actions.New 5 (codes "U") ∷ actions.Put (Reg 4) (Str (codes "f0")) (Reg 5) ∷ actions.New 5 (codes "Main") ∷ actions.Put (Reg 4) (IntKey (pos 7)) (Reg 5) ∷ actions.Drop 5 ∷ actions.Return (Reg 4) ∷ []) ∷
+            members.Method (Str (codes "m0")) (actions.Load 3 2 ∷ actions.Add 1 (Reg 2) (Reg 1) ∷ actions.New 3 (codes "U") ∷ actions.OnTrue 3 ∷ actions.Get 2 (Reg 3) (IntKey (pos 7)) ∷ actions.Load 1 0 ∷ []) ∷
+            members.Setter (Str (codes "f0")) (actions.SelfTo 2 ∷ actions.New 0 (codes "U") ∷ actions.Put (Reg 0) (Str (codes "f0")) (Reg 3) ∷ actions.New 1 (codes "T") ∷ actions.Get 3 (Reg 0) (Str (codes "f0")) ∷ actions.Remove (Reg 0) (Str (codes "f0")) ∷ []) ∷ []);
+      }) ∷
+      (record {
+        name = codes "U";
+        version = 3;
+        stored = true;
+        members = (
+            members.Default (actions.SelfTo 2 ∷ actions.New 5 (codes "T") ∷ actions.New 4 (codes "U") ∷ actions.Load 3 2 ∷ actions.New 2 (codes "U") ∷ actions.Drop 0 ∷ []) ∷
+            members.Method (IntKey (pos 4)) (actions.Load 3 1 ∷ actions.New 4 (codes "U") ∷ actions.Set 3 (Const values.Null) ∷ actions.New 5 (codes "T") ∷ actions.New 2 (codes "Main") ∷ actions.HasProperty (Const (values.Int (pos 14))) (Str (codes "f0")) ∷ actions.New 1 (codes "U") ∷ actions.New 3 (codes "U") ∷ []) ∷
+            members.Method (Str (codes "m0")) (actions.Load 2 0 ∷ actions.Load 0 2 ∷ actions.Load 0 3 ∷ actions.New 3 (codes "T") ∷ actions.New 5 (codes "T") ∷ actions.Slot 0 (Reg 3) ∷ actions.New 2 (codes "T") ∷ actions.New 0 (codes "U") ∷ actions.Window 1 ∷ actions.Note (Reg 1) ∷ actions.Get 1 (Reg 1) (Str (codes "7")) ∷ actions.Remove (Reg 2) (Str (codes "f0")) ∷ actions.Get 3 (Reg 2) (Str (codes "f0")) ∷ []) ∷
+            members.Method (Str (codes "take")) (actions.Load 3 2 ∷ actions.Remove (Reg 3) (Str (codes "f0")) ∷ actions.Put (Reg 1) (Str (codes "f0")) (Const (values.Int (pos 2147483647))) ∷ actions.Put (Reg 0) (Str (codes "f0")) (Reg 0) ∷ actions.New 1 (codes "U") ∷ actions.SelfTo 3 ∷ actions.Load 2 0 ∷ actions.Enumerate 2 (Reg 3) ∷ actions.Put (Reg 4) (Str (codes "7")) (Reg 0) ∷ []) ∷
+            members.Method (Str (codes "m2")) (actions.SelfTo 2 ∷ actions.Load 0 2 ∷ actions.New 1 (codes "Main") ∷ actions.New 5 (codes "T") ∷ []) ∷ []);
+      }) ∷ []);
+  handlers = (
+      (record { which = handlers.New; body = (actions.New 0 (codes "Main") ∷ actions.Slot 0 (Reg 0) ∷ actions.Window 1 ∷ actions.Slot 1 (Reg 1) ∷ actions.Load 2 2 ∷ actions.Load 3 1 ∷ actions.New 3 (codes "T") ∷ []) }) ∷
+      (record { which = handlers.Scriptable; body = (actions.Load 0 0 ∷ actions.Return (Reg 0) ∷ []) }) ∷
+      (record { which = handlers.Destroy; body = (actions.Fail ∷ actions.New 2 (codes "Main") ∷ actions.New 4 (codes "T") ∷ actions.Put (Reg 1) (IntKey (pos 7)) (Reg 0) ∷ actions.New 2 (codes "U") ∷ actions.Put (Reg 2) (Str (codes "f0")) (Reg 3) ∷ actions.Get 3 (Reg 2) (Str (codes "f0")) ∷ actions.Remove (Reg 2) (Str (codes "f0")) ∷ actions.New 3 (codes "T") ∷ []) }) ∷ []);
+  tasks = [];
+}
+
+-- the run of both
+both-end : outcome 1500 page plugin ≡ record {
+  page = (
+      Created (record { side = sides.Page; instance = 1; serial = 1 }) ∷
+      CommandResult 1 (results.Code NoError) ∷
+      CommandResult 2 (results.Yes (values.Object (record { side = sides.Plug; instance = 1; serial = 1 })) false) ∷
+      Created (record { side = sides.Page; instance = 2; serial = 1 }) ∷
+      CommandResult 3 (results.Code NoError) ∷
+      CommandResult 4 (results.Yes (values.Object (record { side = sides.Plug; instance = 2; serial = 1 })) false) ∷
+      Created (record { side = sides.Page; instance = 1; serial = 2 }) ∷
+      CommandResult 5 (results.Yes (values.Object (record { side = sides.Page; instance = 1; serial = 2 })) false) ∷
+      Created (record { side = sides.Page; instance = 2; serial = 2 }) ∷
+      CommandResult 6 (results.Yes (values.Object (record { side = sides.Page; instance = 2; serial = 2 })) false) ∷
+      CommandResult 7 (results.Yes values.Void false) ∷
+      CommandResult 8 results.No ∷
+      CommandResult 9 (results.Yes values.Void false) ∷
+      CommandResult 10 (results.Yes values.Void false) ∷
+      Entered (record { side = sides.Page; instance = 1; serial = 2 }) (ops.Invoke (Str (codes "m3"))) ∷
+      Entered (record { side = sides.Page; instance = 1; serial = 2 }) ops.Enumerate ∷
+      Deallocated (record { side = sides.Page; instance = 1; serial = 2 }) ∷
+      CommandResult 11 (results.Yes values.Void false) ∷
+      CommandResult 12 (results.Yes values.Void false) ∷
+      CommandResult 13 (results.Yes values.Void false) ∷
+      CommandResult 14 (results.Yes values.Void false) ∷
+      CommandResult 15 (results.Yes values.Void false) ∷
+      CommandResult 16 results.No ∷
+      Entered (record { side = sides.Page; instance = 2; serial = 1 }) (ops.Put (Str (codes "f0"))) ∷
+      Entered (record { side = sides.Page; instance = 2; serial = 1 }) (ops.Invoke (IntKey (pos 4))) ∷
+      Created (record { side = sides.Page; instance = 2; serial = 3 }) ∷
+      Entered (record { side = sides.Page; instance = 2; serial = 1 }) (ops.Invoke (Str (codes "take"))) ∷
+      Created (record { side = sides.Page; instance = 2; serial = 4 }) ∷
+      Deallocated (record { side = sides.Page; instance = 2; serial = 4 }) ∷
+      Created (record { side = sides.Page; instance = 2; serial = 5 }) ∷
+      Entered (record { side = sides.Page; instance = 2; serial = 3 }) (ops.Put (Str (codes "f1"))) ∷
+      Created (record { side = sides.Page; instance = 2; serial = 6 }) ∷
+      Created (record { side = sides.Page; instance = 2; serial = 7 }) ∷
+      Deallocated (record { side = sides.Page; instance = 2; serial = 3 }) ∷
+      Deallocated (record { side = sides.Page; instance = 2; serial = 6 }) ∷
+      Deallocated (record { side = sides.Page; instance = 2; serial = 7 }) ∷
+      Created (record { side = sides.Page; instance = 2; serial = 8 }) ∷
+      Deallocated (record { side = sides.Page; instance = 2; serial = 5 }) ∷
+      Deallocated (record { side = sides.Page; instance = 2; serial = 8 }) ∷
+      CommandResult 17 (results.Yes values.Void false) ∷
+      Invalidated (record { side = sides.Page; instance = 1; serial = 1 }) ∷
+      Deallocated (record { side = sides.Page; instance = 1; serial = 1 }) ∷
+      ProxyGone (record { side = sides.Plug; instance = 2; serial = 1 }) ∷
+      Invalidated (record { side = sides.Page; instance = 2; serial = 1 }) ∷
+      Invalidated (record { side = sides.Page; instance = 2; serial = 2 }) ∷
+      Deallocated (record { side = sides.Page; instance = 2; serial = 1 }) ∷
+      Deallocated (record { side = sides.Page; instance = 2; serial = 2 }) ∷ []);
+  plugin = (
+      HandlerRun 1 handlers.New ∷
+      Created (record { side = sides.Plug; instance = 1; serial = 1 }) ∷
+      Created (record { side = sides.Plug; instance = 1; serial = 2 }) ∷
+      Deallocated (record { side = sides.Plug; instance = 1; serial = 2 }) ∷
+      HandlerRun 1 handlers.Scriptable ∷
+      HandlerRun 2 handlers.New ∷
+      Created (record { side = sides.Plug; instance = 2; serial = 1 }) ∷
+      Created (record { side = sides.Plug; instance = 2; serial = 2 }) ∷
+      Deallocated (record { side = sides.Plug; instance = 2; serial = 2 }) ∷
+      HandlerRun 2 handlers.Scriptable ∷
+      Entered (record { side = sides.Plug; instance = 2; serial = 1 }) (ops.Invoke (Str (codes "m2"))) ∷
+      Entered (record { side = sides.Plug; instance = 2; serial = 1 }) (ops.Put (IntKey (pos 7))) ∷
+      Entered (record { side = sides.Plug; instance = 2; serial = 1 }) (ops.Invoke (Str (codes "take"))) ∷
+      Noted values.Void false ∷
+      Entered (record { side = sides.Plug; instance = 2; serial = 1 }) (ops.Put (Str (codes "f1"))) ∷
+      Noted values.Null false ∷
+      Entered (record { side = sides.Plug; instance = 1; serial = 1 }) (ops.Invoke (Str (codes "take"))) ∷
+      Noted values.Void false ∷
+      Entered (record { side = sides.Plug; instance = 1; serial = 1 }) (ops.Put (Str (codes "f1"))) ∷
+      Noted values.Null false ∷
+      Entered (record { side = sides.Plug; instance = 2; serial = 1 }) (ops.Invoke (Str (codes "m2"))) ∷
+      Entered (record { side = sides.Plug; instance = 2; serial = 1 }) (ops.Put (IntKey (pos 7))) ∷
+      Entered (record { side = sides.Plug; instance = 2; serial = 1 }) (ops.Invoke (Str (codes "m1"))) ∷
+      Created (record { side = sides.Plug; instance = 2; serial = 3 }) ∷
+      Deallocated (record { side = sides.Plug; instance = 2; serial = 3 }) ∷
+      Entered (record { side = sides.Plug; instance = 2; serial = 1 }) (ops.Invoke (Str (codes "m0"))) ∷
+      Created (record { side = sides.Plug; instance = 2; serial = 4 }) ∷
+      Created (record { side = sides.Plug; instance = 2; serial = 5 }) ∷
+      Entered (record { side = sides.Plug; instance = 2; serial = 1 }) (ops.Invoke (Str (codes "m2"))) ∷
+      Entered (record { side = sides.Plug; instance = 2; serial = 1 }) (ops.Put (IntKey (pos 7))) ∷
+      Entered (record { side = sides.Plug; instance = 2; serial = 4 }) (ops.Invoke (Str (codes "take"))) ∷
+      Created (record { side = sides.Plug; instance = 2; serial = 6 }) ∷
+      Entered (record { side = sides.Plug; instance = 2; serial = 4 }) ops.Enumerate ∷
+      Deallocated (record { side = sides.Plug; instance = 2; serial = 6 }) ∷
+      Deallocated (record { side = sides.Plug; instance = 2; serial = 5 }) ∷
+      HandlerRun 1 handlers.Destroy ∷
+      ProxyGone (record { side = sides.Page; instance = 1; serial = 1 }) ∷
+      Invalidated (record { side = sides.Plug; instance = 1; serial = 1 }) ∷
+      Deallocated (record { side = sides.Plug; instance = 1; serial = 1 }) ∷
+      HandlerRun 2 handlers.Destroy ∷
+      ProxyGone (record { side = sides.Page; instance = 2; serial = 1 }) ∷
+      Invalidated (record { side = sides.Plug; instance = 2; serial = 1 }) ∷
+      Invalidated (record { side = sides.Plug; instance = 2; serial = 4 }) ∷
+      Deallocated (record { side = sides.Plug; instance = 2; serial = 1 }) ∷
+      Deallocated (record { side = sides.Plug; instance = 2; serial = 4 }) ∷ []);
+  files = [];
+  rests = true;
+}
+unfolding encoding digits is_text is_utf8 chars encode_utf8
+both-end = refl
+
+-- all bytes that the page sends
+page-sends : page_bytes 1500 page plugin ≡ (0 ∷ 0 ∷ 0 ∷ 7 ∷ 1 ∷ 1 ∷ 0 ∷ 0 ∷ 1 ∷ 0 ∷ 27 ∷ 0 ∷ 0 ∷ 0 ∷ 12 ∷ 2 ∷ 1 ∷ 0 ∷ 0 ∷ 1 ∷ 1 ∷ 0 ∷ 3 ∷ 116 ∷ 47 ∷ 120 ∷ 0 ∷ 0 ∷ 0 ∷ 0 ∷ 11 ∷ 65 ∷ 2 ∷ 0 ∷ 0 ∷ 6 ∷ 0 ∷ 1 ∷ 0 ∷ 0 ∷ 0 ∷ 1 ∷ 0 ∷ 0 ∷ 0 ∷ 5 ∷ 4 ∷ 1 ∷ 0 ∷ 0 ∷ 1 ∷ 0 ∷ 0 ∷ 0 ∷ 12 ∷ 2 ∷ 1 ∷ 0 ∷ 0 ∷ 2 ∷ 1 ∷ 0 ∷ 3 ∷ 116 ∷ 47 ∷ 120 ∷ 0 ∷ 0 ∷ 0 ∷ 0 ∷ 11 ∷ 65 ∷ 2 ∷ 0 ∷ 0 ∷ 6 ∷ 0 ∷ 2 ∷ 0 ∷ 0 ∷ 0 ∷ 1 ∷ 0 ∷ 0 ∷ 0 ∷ 5 ∷ 4 ∷ 1 ∷ 0 ∷ 0 ∷ 2 ∷ 0 ∷ 0 ∷ 0 ∷ 37 ∷ 64 ∷ 1 ∷ 0 ∷ 0 ∷ 2 ∷ 0 ∷ 0 ∷ 0 ∷ 1 ∷ 1 ∷ 0 ∷ 0 ∷ 2 ∷ 109 ∷ 50 ∷ 3 ∷ 6 ∷ 1 ∷ 2 ∷ 0 ∷ 0 ∷ 0 ∷ 1 ∷ 6 ∷ 1 ∷ 1 ∷ 0 ∷ 0 ∷ 0 ∷ 1 ∷ 6 ∷ 0 ∷ 2 ∷ 0 ∷ 0 ∷ 0 ∷ 2 ∷ 0 ∷ 0 ∷ 0 ∷ 11 ∷ 65 ∷ 2 ∷ 0 ∷ 0 ∷ 6 ∷ 0 ∷ 2 ∷ 0 ∷ 0 ∷ 0 ∷ 1 ∷ 0 ∷ 0 ∷ 0 ∷ 11 ∷ 65 ∷ 3 ∷ 0 ∷ 0 ∷ 6 ∷ 0 ∷ 2 ∷ 0 ∷ 0 ∷ 0 ∷ 1 ∷ 0 ∷ 0 ∷ 0 ∷ 11 ∷ 65 ∷ 3 ∷ 0 ∷ 0 ∷ 6 ∷ 0 ∷ 2 ∷ 0 ∷ 0 ∷ 0 ∷ 1 ∷ 0 ∷ 0 ∷ 0 ∷ 27 ∷ 64 ∷ 1 ∷ 0 ∷ 0 ∷ 1 ∷ 0 ∷ 0 ∷ 0 ∷ 1 ∷ 1 ∷ 0 ∷ 0 ∷ 4 ∷ 116 ∷ 97 ∷ 107 ∷ 101 ∷ 3 ∷ 0 ∷ 0 ∷ 6 ∷ 1 ∷ 2 ∷ 0 ∷ 0 ∷ 0 ∷ 1 ∷ 0 ∷ 0 ∷ 0 ∷ 11 ∷ 65 ∷ 2 ∷ 0 ∷ 0 ∷ 6 ∷ 0 ∷ 1 ∷ 0 ∷ 0 ∷ 0 ∷ 1 ∷ 0 ∷ 0 ∷ 0 ∷ 11 ∷ 65 ∷ 2 ∷ 0 ∷ 0 ∷ 6 ∷ 0 ∷ 1 ∷ 0 ∷ 0 ∷ 0 ∷ 1 ∷ 0 ∷ 0 ∷ 0 ∷ 26 ∷ 64 ∷ 1 ∷ 0 ∷ 1 ∷ 1 ∷ 0 ∷ 0 ∷ 0 ∷ 1 ∷ 0 ∷ 0 ∷ 0 ∷ 1 ∷ 2 ∷ 0 ∷ 0 ∷ 0 ∷ 1 ∷ 1 ∷ 0 ∷ 0 ∷ 2 ∷ 109 ∷ 50 ∷ 1 ∷ 0 ∷ 0 ∷ 0 ∷ 0 ∷ 11 ∷ 65 ∷ 2 ∷ 0 ∷ 0 ∷ 6 ∷ 0 ∷ 2 ∷ 0 ∷ 0 ∷ 0 ∷ 1 ∷ 0 ∷ 0 ∷ 0 ∷ 16 ∷ 64 ∷ 1 ∷ 0 ∷ 0 ∷ 2 ∷ 0 ∷ 0 ∷ 0 ∷ 1 ∷ 1 ∷ 0 ∷ 0 ∷ 2 ∷ 109 ∷ 49 ∷ 0 ∷ 0 ∷ 0 ∷ 0 ∷ 11 ∷ 65 ∷ 2 ∷ 0 ∷ 0 ∷ 6 ∷ 0 ∷ 2 ∷ 0 ∷ 0 ∷ 0 ∷ 1 ∷ 0 ∷ 0 ∷ 0 ∷ 4 ∷ 5 ∷ 1 ∷ 0 ∷ 0 ∷ 0 ∷ 0 ∷ 0 ∷ 25 ∷ 64 ∷ 1 ∷ 0 ∷ 0 ∷ 2 ∷ 0 ∷ 0 ∷ 0 ∷ 1 ∷ 1 ∷ 0 ∷ 0 ∷ 2 ∷ 109 ∷ 48 ∷ 3 ∷ 6 ∷ 1 ∷ 2 ∷ 0 ∷ 0 ∷ 0 ∷ 1 ∷ 0 ∷ 0 ∷ 0 ∷ 0 ∷ 0 ∷ 11 ∷ 65 ∷ 3 ∷ 0 ∷ 0 ∷ 6 ∷ 0 ∷ 2 ∷ 0 ∷ 0 ∷ 0 ∷ 1 ∷ 0 ∷ 0 ∷ 0 ∷ 5 ∷ 65 ∷ 4 ∷ 0 ∷ 0 ∷ 0 ∷ 0 ∷ 0 ∷ 0 ∷ 5 ∷ 3 ∷ 1 ∷ 0 ∷ 0 ∷ 1 ∷ 0 ∷ 0 ∷ 0 ∷ 5 ∷ 3 ∷ 1 ∷ 0 ∷ 0 ∷ 2 ∷ 0 ∷ 0 ∷ 0 ∷ 4 ∷ 12 ∷ 1 ∷ 0 ∷ 0 ∷ [])
+unfolding encoding digits is_text is_utf8 chars encode_utf8
+page-sends = refl
+
+-- all bytes that the plugin sends
+plugin-sends : plugin_bytes 1500 page plugin ≡ (0 ∷ 0 ∷ 0 ∷ 5 ∷ 69 ∷ 1 ∷ 0 ∷ 0 ∷ 0 ∷ 0 ∷ 0 ∷ 0 ∷ 5 ∷ 32 ∷ 2 ∷ 0 ∷ 0 ∷ 1 ∷ 0 ∷ 0 ∷ 0 ∷ 5 ∷ 69 ∷ 1 ∷ 0 ∷ 0 ∷ 0 ∷ 0 ∷ 0 ∷ 0 ∷ 11 ∷ 65 ∷ 1 ∷ 0 ∷ 0 ∷ 6 ∷ 1 ∷ 1 ∷ 0 ∷ 0 ∷ 0 ∷ 1 ∷ 0 ∷ 0 ∷ 0 ∷ 5 ∷ 32 ∷ 2 ∷ 0 ∷ 0 ∷ 2 ∷ 0 ∷ 0 ∷ 0 ∷ 5 ∷ 69 ∷ 1 ∷ 0 ∷ 0 ∷ 0 ∷ 0 ∷ 0 ∷ 0 ∷ 11 ∷ 65 ∷ 1 ∷ 0 ∷ 0 ∷ 6 ∷ 1 ∷ 2 ∷ 0 ∷ 0 ∷ 0 ∷ 1 ∷ 0 ∷ 0 ∷ 0 ∷ 14 ∷ 32 ∷ 2 ∷ 0 ∷ 1 ∷ 2 ∷ 0 ∷ 0 ∷ 0 ∷ 2 ∷ 0 ∷ 0 ∷ 0 ∷ 1 ∷ 2 ∷ 0 ∷ 0 ∷ 0 ∷ 5 ∷ 32 ∷ 3 ∷ 0 ∷ 0 ∷ 2 ∷ 0 ∷ 0 ∷ 0 ∷ 5 ∷ 32 ∷ 3 ∷ 0 ∷ 0 ∷ 2 ∷ 0 ∷ 0 ∷ 0 ∷ 5 ∷ 65 ∷ 1 ∷ 0 ∷ 0 ∷ 0 ∷ 0 ∷ 0 ∷ 0 ∷ 5 ∷ 32 ∷ 2 ∷ 0 ∷ 0 ∷ 1 ∷ 0 ∷ 0 ∷ 0 ∷ 5 ∷ 32 ∷ 2 ∷ 0 ∷ 0 ∷ 1 ∷ 0 ∷ 0 ∷ 0 ∷ 5 ∷ 65 ∷ 1 ∷ 0 ∷ 0 ∷ 0 ∷ 0 ∷ 0 ∷ 0 ∷ 5 ∷ 32 ∷ 2 ∷ 0 ∷ 0 ∷ 2 ∷ 0 ∷ 0 ∷ 0 ∷ 5 ∷ 65 ∷ 1 ∷ 0 ∷ 0 ∷ 0 ∷ 0 ∷ 0 ∷ 0 ∷ 5 ∷ 32 ∷ 2 ∷ 0 ∷ 0 ∷ 2 ∷ 0 ∷ 0 ∷ 0 ∷ 5 ∷ 65 ∷ 1 ∷ 0 ∷ 0 ∷ 0 ∷ 0 ∷ 0 ∷ 0 ∷ 4 ∷ 71 ∷ 1 ∷ 0 ∷ 0 ∷ 0 ∷ 0 ∷ 0 ∷ 5 ∷ 32 ∷ 3 ∷ 0 ∷ 0 ∷ 2 ∷ 0 ∷ 0 ∷ 0 ∷ 22 ∷ 64 ∷ 4 ∷ 0 ∷ 0 ∷ 2 ∷ 0 ∷ 0 ∷ 0 ∷ 1 ∷ 5 ∷ 0 ∷ 0 ∷ 2 ∷ 102 ∷ 48 ∷ 6 ∷ 0 ∷ 2 ∷ 0 ∷ 0 ∷ 0 ∷ 1 ∷ 0 ∷ 0 ∷ 0 ∷ 5 ∷ 65 ∷ 1 ∷ 0 ∷ 0 ∷ 0 ∷ 0 ∷ 0 ∷ 0 ∷ 5 ∷ 69 ∷ 1 ∷ 0 ∷ 0 ∷ 0 ∷ 0 ∷ 0 ∷ 0 ∷ 5 ∷ 69 ∷ 1 ∷ 0 ∷ 0 ∷ 0 ∷ 0 ∷ 0 ∷ 0 ∷ 4 ∷ 71 ∷ 1 ∷ 0 ∷ 0 ∷ [])
+unfolding encoding digits is_text is_utf8 chars encode_utf8
+plugin-sends = refl
+
+-- the plug-in's first 113 bytes hold 10 whole messages
+cut-113 : lost_outcome 1500 (Some 10) page plugin ≡ record {
+  page = (
+      Created (record { side = sides.Page; instance = 1; serial = 1 }) ∷
+      CommandResult 1 (results.Code NoError) ∷
+      CommandResult 2 (results.Yes (values.Object (record { side = sides.Plug; instance = 1; serial = 1 })) false) ∷
+      Created (record { side = sides.Page; instance = 2; serial = 1 }) ∷
+      CommandResult 3 (results.Code NoError) ∷
+      CommandResult 4 (results.Yes (values.Object (record { side = sides.Plug; instance = 2; serial = 1 })) false) ∷
+      Created (record { side = sides.Page; instance = 1; serial = 2 }) ∷
+      CommandResult 5 (results.Yes (values.Object (record { side = sides.Page; instance = 1; serial = 2 })) false) ∷
+      Created (record { side = sides.Page; instance = 2; serial = 2 }) ∷
+      CommandResult 6 (results.Yes (values.Object (record { side = sides.Page; instance = 2; serial = 2 })) false) ∷
+      ProxyGone (record { side = sides.Plug; instance = 1; serial = 1 }) ∷
+      Invalidated (record { side = sides.Page; instance = 1; serial = 1 }) ∷
+      Invalidated (record { side = sides.Page; instance = 1; serial = 2 }) ∷
+      Deallocated (record { side = sides.Page; instance = 1; serial = 1 }) ∷
+      Deallocated (record { side = sides.Page; instance = 1; serial = 2 }) ∷
+      ProxyGone (record { side = sides.Plug; instance = 2; serial = 1 }) ∷
+      Invalidated (record { side = sides.Page; instance = 2; serial = 1 }) ∷
+      Invalidated (record { side = sides.Page; instance = 2; serial = 2 }) ∷
+      Deallocated (record { side = sides.Page; instance = 2; serial = 1 }) ∷
+      Deallocated (record { side = sides.Page; instance = 2; serial = 2 }) ∷
+      CommandResult 7 results.No ∷
+      CommandResult 8 results.No ∷
+      CommandResult 9 results.No ∷
+      CommandResult 10 (results.Yes values.Void false) ∷
+      CommandResult 11 results.No ∷
+      CommandResult 12 results.No ∷
+      CommandResult 13 (results.Yes values.Void false) ∷
+      CommandResult 14 results.No ∷
+      CommandResult 15 results.No ∷
+      CommandResult 16 results.No ∷
+      CommandResult 17 results.No ∷ []);
+  rests = true;
+}
+unfolding encoding digits is_text is_utf8 chars encode_utf8
+cut-113 = refl
+
+-- the plug-in's first 256 bytes hold 24 whole messages
+cut-256 : lost_outcome 1500 (Some 24) page plugin ≡ record {
+  page = (
+      Created (record { side = sides.Page; instance = 1; serial = 1 }) ∷
+      CommandResult 1 (results.Code NoError) ∷
+      CommandResult 2 (results.Yes (values.Object (record { side = sides.Plug; instance = 1; serial = 1 })) false) ∷
+      Created (record { side = sides.Page; instance = 2; serial = 1 }) ∷
+      CommandResult 3 (results.Code NoError) ∷
+      CommandResult 4 (results.Yes (values.Object (record { side = sides.Plug; instance = 2; serial = 1 })) false) ∷
+      Created (record { side = sides.Page; instance = 1; serial = 2 }) ∷
+      CommandResult 5 (results.Yes (values.Object (record { side = sides.Page; instance = 1; serial = 2 })) false) ∷
+      Created (record { side = sides.Page; instance = 2; serial = 2 }) ∷
+      CommandResult 6 (results.Yes (values.Object (record { side = sides.Page; instance = 2; serial = 2 })) false) ∷
+      CommandResult 7 (results.Yes values.Void false) ∷
+      CommandResult 8 results.No ∷
+      CommandResult 9 (results.Yes values.Void false) ∷
+      CommandResult 10 (results.Yes values.Void false) ∷
+      Entered (record { side = sides.Page; instance = 1; serial = 2 }) (ops.Invoke (Str (codes "m3"))) ∷
+      Entered (record { side = sides.Page; instance = 1; serial = 2 }) ops.Enumerate ∷
+      Deallocated (record { side = sides.Page; instance = 1; serial = 2 }) ∷
+      CommandResult 11 (results.Yes values.Void false) ∷
+      CommandResult 12 (results.Yes values.Void false) ∷
+      CommandResult 13 (results.Yes values.Void false) ∷
+      CommandResult 14 (results.Yes values.Void false) ∷
+      CommandResult 15 (results.Yes values.Void false) ∷
+      CommandResult 16 results.No ∷
+      Entered (record { side = sides.Page; instance = 2; serial = 1 }) (ops.Put (Str (codes "f0"))) ∷
+      Entered (record { side = sides.Page; instance = 2; serial = 1 }) (ops.Invoke (IntKey (pos 4))) ∷
+      Created (record { side = sides.Page; instance = 2; serial = 3 }) ∷
+      Entered (record { side = sides.Page; instance = 2; serial = 1 }) (ops.Invoke (Str (codes "take"))) ∷
+      Created (record { side = sides.Page; instance = 2; serial = 4 }) ∷
+      Deallocated (record { side = sides.Page; instance = 2; serial = 4 }) ∷
+      Created (record { side = sides.Page; instance = 2; serial = 5 }) ∷
+      Entered (record { side = sides.Page; instance = 2; serial = 3 }) (ops.Put (Str (codes "f1"))) ∷
+      Created (record { side = sides.Page; instance = 2; serial = 6 }) ∷
+      Created (record { side = sides.Page; instance = 2; serial = 7 }) ∷
+      Deallocated (record { side = sides.Page; instance = 2; serial = 3 }) ∷
+      Deallocated (record { side = sides.Page; instance = 2; serial = 6 }) ∷
+      Deallocated (record { side = sides.Page; instance = 2; serial = 7 }) ∷
+      Created (record { side = sides.Page; instance = 2; serial = 8 }) ∷
+      Deallocated (record { side = sides.Page; instance = 2; serial = 5 }) ∷
+      Deallocated (record { side = sides.Page; instance = 2; serial = 8 }) ∷
+      CommandResult 17 (results.Yes values.Void false) ∷
+      Invalidated (record { side = sides.Page; instance = 1; serial = 1 }) ∷
+      Deallocated (record { side = sides.Page; instance = 1; serial = 1 }) ∷
+      ProxyGone (record { side = sides.Plug; instance = 2; serial = 1 }) ∷
+      Invalidated (record { side = sides.Page; instance = 2; serial = 1 }) ∷
+      Invalidated (record { side = sides.Page; instance = 2; serial = 2 }) ∷
+      Deallocated (record { side = sides.Page; instance = 2; serial = 1 }) ∷
+      Deallocated (record { side = sides.Page; instance = 2; serial = 2 }) ∷ []);
+  rests = true;
+}
+unfolding encoding digits is_text is_utf8 chars encode_utf8
+cut-256 = refl
