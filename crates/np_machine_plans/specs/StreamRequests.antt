@@ -11,7 +11,7 @@ use Rattle.np_machine_plans.specs.declared.stream.Span.{Span}
 use Rattle.np_machine_plans.specs.declared.stream.Stream.{Stream}
 use Rattle.np_machine_plans.specs.declared.stream.StreamPhase.TheVariants as stream_phases
 use Rattle.np_machine_plans.specs.declared.stream.StreamPhase.{StreamPhase}
-use Rattle.np_machine_plans.specs.Streams.{least}
+use Rattle.np_machine_plans.specs.Streams.{NP_SEEK, least}
 
 -- ---- resources
 
@@ -95,10 +95,10 @@ abbrev pub range_code : Stream → Option (List Span) → NpError
 range_code s None = InvalidParam
 range_code s (Some rs) = if nat_lt 64 (length s.ranges + length rs) then Generic else NoError
 
--- only a stream of mode 2, NP_SEEK, can be read in ranges
+-- only a stream of NP_SEEK can be read in ranges
 abbrev pub request_code : List Range → Option Stream → NpError
 request_code ranges None = InvalidParam
-request_code ranges (Some s) = if s.mode == 2 then range_code s (spans s.length ranges) else StreamNotSeekable
+request_code ranges (Some s) = if s.mode == NP_SEEK then range_code s (spans s.length ranges) else StreamNotSeekable
 
 -- the ranges, or none where one is bad
 abbrev pub spans_or_none : Option (List Span) → List Span

@@ -11,6 +11,16 @@ use Rattle.np_machine_plans.specs.declared.stream.StreamPhase.TheVariants as str
 use Rattle.np_machine_plans.specs.declared.stream.StreamPhase.{StreamPhase}
 use Rattle.np_machine_plans.specs.Calls.{call}
 
+-- the modes of a stream that its rules name (npapi.h)
+abbrev pub NP_NORMAL : ℕ
+NP_NORMAL = 1
+
+abbrev pub NP_SEEK : ℕ
+NP_SEEK = 2
+
+abbrev pub NP_ASFILEONLY : ℕ
+NP_ASFILEONLY = 4
+
 -- the lesser of two numbers
 abbrev pub least : ℕ → ℕ → ℕ
 least a b = if nat_le a b then a else b
@@ -36,13 +46,13 @@ abbrev pub notify_call : NpReason → Option ℤ → Option StreamCall
 notify_call reason None = None
 notify_call reason (Some word) = Some (stream_calls.Notify reason word)
 
--- The next call of a stream in this phase. In mode 2, NP_SEEK, it writes what was requested; in the others its content from the front (npapi.h, NP_NORMAL).
+-- The next call of a stream in this phase. In NP_SEEK it writes what was requested; in the others its content from the front (npapi.h).
 abbrev pub call_in : Stream → StreamPhase → Option StreamCall
 call_in s stream_phases.Begun = Some stream_calls.New
 call_in s stream_phases.Flowing =
-    if s.mode == 2 then ready_for_range s.ranges else if nat_lt s.taken s.length then Some stream_calls.Ready else Some stream_calls.File
+    if s.mode == NP_SEEK then ready_for_range s.ranges else if nat_lt s.taken s.length then Some stream_calls.Ready else Some stream_calls.File
 call_in s (stream_phases.Offered n) =
-    if s.mode == 2 then write_range n s.ranges else Some (stream_calls.Write s.taken (least (least n max_write) (s.length - s.taken)))
+    if s.mode == NP_SEEK then write_range n s.ranges else Some (stream_calls.Write s.taken (least (least n max_write) (s.length - s.taken)))
 call_in s stream_phases.FileOnly = Some stream_calls.File
 call_in s (stream_phases.Closing reason) = Some (stream_calls.Destroy reason)
 call_in s (stream_phases.Destroyed reason) = notify_call reason s.notify
@@ -59,15 +69,15 @@ next_stream_call (s ∷ ss) = call_or s (call_in s s.phase) (next_stream_call ss
 
 -- ---- after a reply
 
--- a stream of mode 1 that the plug-in took whole closes at once
+-- a stream of NP_NORMAL that the plug-in took whole closes at once
 abbrev pub flowing : Stream → Stream
-flowing s = if s.mode == 1 && s.taken == s.length then record s { phase = stream_phases.Closing reasons.Done } else record s { phase = stream_phases.Flowing }
+flowing s = if s.mode == NP_NORMAL && s.taken == s.length then record s { phase = stream_phases.Closing reasons.Done } else record s { phase = stream_phases.Flowing }
 
 -- NPP_NewStream: 1 to 4 are NP_NORMAL, NP_SEEK, NP_ASFILE and NP_ASFILEONLY (npapi.h); 0 refuses the stream
 abbrev pub after_new : Stream → ℕ → Stream
 after_new s n =
     if n == 0 then record s { mode = n; phase = stream_phases.Destroyed reasons.NetworkErr }
-    else if n == 4 then record s { mode = n; phase = stream_phases.FileOnly }
+    else if n == NP_ASFILEONLY then record s { mode = n; phase = stream_phases.FileOnly }
     else flowing (record s { mode = n })
 
 -- NPP_WriteReady: 0 asks again later
@@ -82,7 +92,7 @@ after_range n (r ∷ rs) = if r.start + n == r.end then rs else (record r { star
 -- NPP_Write: how many bytes were taken; below 0 the stream fails
 abbrev pub after_write : Stream → ℤ → Stream
 after_write s (pos n) =
-    if s.mode == 2 then record s { ranges = after_range n s.ranges; phase = stream_phases.Flowing } else flowing (record s { taken = s.taken + n })
+    if s.mode == NP_SEEK then record s { ranges = after_range n s.ranges; phase = stream_phases.Flowing } else flowing (record s { taken = s.taken + n })
 after_write s (negsuc n) = record s { phase = stream_phases.Closing reasons.NetworkErr }
 
 -- the stream was closed

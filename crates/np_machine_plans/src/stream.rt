@@ -18,7 +18,7 @@ pub type Spans = Seq<Span>;
 pub enum StreamPhase {
     /// NPP_NewStream is due.
     Begun,
-    /// NPP_WriteReady is due, or NPP_StreamAsFile where a stream of mode 3 is taken whole.
+    /// NPP_WriteReady is due, or NPP_StreamAsFile where a stream of NP_ASFILE is taken whole.
     Flowing,
     /// NPP_Write is due: the plug-in takes at most so many bytes.
     Offered(u32),
@@ -44,9 +44,9 @@ pub struct Stream {
     pub notify: Option<i32>,
     /// NP_NORMAL 1, NP_SEEK 2, NP_ASFILE 3 or NP_ASFILEONLY 4 (npapi.h); 0 before NPP_NewStream is answered.
     pub mode: u8,
-    /// How many bytes the plug-in took from the front of the content; unused in mode 2.
+    /// How many bytes the plug-in took from the front of the content; unused in NP_SEEK.
     pub taken: u32,
-    /// What was requested of a stream of mode 2, the next one first.
+    /// What was requested of a stream of NP_SEEK, the next one first.
     pub ranges: Spans,
     pub phase: StreamPhase,
 }

@@ -40,9 +40,18 @@ abbrev pub operand_word : Operand → List ℕ
 operand_word (Reg number) = register_word number
 operand_word (Const value) = value_word value
 
--- npapi.h, NP_EMBED and NP_FULL
+-- the modes of an instance (npapi.h)
+abbrev pub NP_EMBED : ℕ
+NP_EMBED = 1
+
+abbrev pub NP_FULL : ℕ
+NP_FULL = 2
+
+abbrev pub is_mode : ℕ → Bool
+is_mode mode = (mode == NP_EMBED) || (mode == NP_FULL)
+
 abbrev pub mode_word : ℕ → List ℕ
-mode_word mode = if mode == 1 then codes "embed" else codes "full"
+mode_word mode = if mode == NP_EMBED then codes "embed" else codes "full"
 
 abbrev pub field_word : Field → List ℕ
 field_word (fields.Register number) = register_word number
@@ -88,7 +97,7 @@ is_of items.Integer (fields.Integer number) = is_int number
 is_of (items.Number low high) (fields.Number number) = nat_le low number && nat_le number high
 is_of items.Text (fields.Text text) = is_utf8 text
 is_of items.Identifier (fields.Identifier key) = is_key key
-is_of items.Mode (fields.Mode mode) = (mode == 1) || (mode == 2)
+is_of items.Mode (fields.Mode mode) = is_mode mode
 is_of items.HandlerWord (fields.HandlerWord handler) = true
 is_of item field = false
 

@@ -4,12 +4,18 @@ use crate::action::{Operand, Operands};
 use np_idents::IdKey;
 use np_values::{Seq, Text, Texts};
 
+/// npapi.h, the mode of an instance that is a part of its page.
+pub const NP_EMBED: u8 = 1;
+
+/// npapi.h, the mode of an instance that has a page of its own.
+pub const NP_FULL: u8 = 2;
+
 /// A command of a page. Registers are 0 to 15, instances 1 to 255. (This project's own; the calls are
 /// those of npfunctions.h, NPPluginFuncs, and npruntime.h, NPClass.)
 #[derive(Drop)]
 pub enum Command {
     /// `create TEXT MODE` and at most three pairs `TEXT TEXT`: NPP_New of the next instance. The mode is
-    /// 1 (NP_EMBED) or 2 (NP_FULL); the attributes are names and values in turn.
+    /// `NP_EMBED` or `NP_FULL`; the attributes are names and values in turn.
     Create {
         mime: Text,
         mode: u8,

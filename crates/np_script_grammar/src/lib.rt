@@ -13,7 +13,7 @@ mod refusal;
 
 pub use action::{Action, Body, Operand, Operands};
 pub use class::{ClassDef, Classes, Member, Members};
-pub use command::{Command, Commands};
+pub use command::{Command, Commands, NP_EMBED, NP_FULL};
 pub use fields::Fields;
 pub use line::{Field, Item};
 pub use page::{Page, Resource, Resources};

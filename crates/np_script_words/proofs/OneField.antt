@@ -16,10 +16,10 @@ use Rattle.np_script_grammar.specs.declared.action.Operand.{Operand}
 use Rattle.np_script_grammar.specs.declared.action.Operand.TheVariants.{Reg, Const}
 use Rattle.np_script_grammar.specs.declared.line.Item.TheVariants as items
 use Rattle.np_script_grammar.specs.declared.line.Field.TheVariants as fields
-use Rattle.np_script_grammar.specs.Fields.{quoted, quoted_byte, hexadecimal, register_word, value_word, operand_word, key_word, mode_word, handler_word, is_int, is_register, is_constant, is_operand, is_key}
+use Rattle.np_script_grammar.specs.Fields.{quoted, quoted_byte, hexadecimal, register_word, value_word, operand_word, key_word, mode_word, handler_word, is_mode, is_int, is_register, is_constant, is_operand, is_key}
 use Rattle.np_script_words.specs.declared.quoted.QuotedState.TheVariants.{Plain}
 use Rattle.np_script_words.specs.Quoted.{unquoted_from}
-use Rattle.np_script_words.specs.Reads.{is_byte, is_mode}
+use Rattle.np_script_words.specs.Reads.{is_byte}
 use Rattle.np_script_words.specs.Laws.{OneField}
 use Rattle.np_script_words.proofs.Quoting.{quoted_reads}
 use Rattle.np_script_words.proofs.Numbers.{int_mag}

@@ -74,7 +74,3 @@ IsShort field = is_short field ≡ true
 -- a number of eight bits
 abbrev pub is_byte : ℕ → Bool
 is_byte b = nat_lt b 256
-
--- npapi.h, NP_EMBED and NP_FULL
-abbrev pub is_mode : ℕ → Bool
-is_mode mode = (mode == 1) || (mode == 2)

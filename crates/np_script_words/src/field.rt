@@ -1,21 +1,15 @@
 //! Fields.
 ghost use Rattle.std.specs.Prelude.{◌≡◌, ◌≢◌, ◌==◌, ◌||◌, ℕ, true, IfSome, None};
-ghost use Rattle.np_script_grammar.specs.Fields.{mode_word};
-ghost use Rattle.np_script_words.specs.Reads.{Reads, Says, IsShort, is_mode};
+ghost use Rattle.np_script_grammar.specs.Fields.{is_mode, mode_word};
+ghost use Rattle.np_script_words.specs.Reads.{Reads, Says, IsShort};
 
 use crate::FieldError;
 use crate::number::{read_int, read_number, read_register};
 use crate::text::{read_key, read_text};
 use crate::value::{is_word, read_operand};
-use np_script_grammar::{Field, Item};
+use np_script_grammar::{Field, Item, NP_EMBED, NP_FULL};
 use np_values::Handler;
 use std::alloc::Global;
-
-/// npapi.h, NP_EMBED.
-const NP_EMBED: u8 = 1;
-
-/// npapi.h, NP_FULL.
-const NP_FULL: u8 = 2;
 
 /// The mode of an instance that a word names.
 fn read_mode(word: &[u8]) -> Option<u8>

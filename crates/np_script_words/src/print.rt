@@ -4,7 +4,7 @@ ghost use Rattle.np_script_grammar.specs.Fields.{hexadecimal, register_word, val
 
 use itoa::Buffer;
 use np_idents::IdKey;
-use np_script_grammar::{Field, Operand};
+use np_script_grammar::{Field, NP_EMBED, Operand};
 use np_values::{Handler, NoMemory, Value, push_int, push_number, push_quoted};
 
 /// Appends two pieces.
@@ -97,12 +97,12 @@ pub fn push_key(out: &mut Vec<u8>, key: &IdKey) -> Result<(), NoMemory>
     }
 }
 
-/// Appends the word of a mode, which is 1 or 2. (npapi.h, NP_EMBED and NP_FULL.)
+/// Appends the word of a mode, which is `NP_EMBED` or `NP_FULL` of npapi.h.
 pub fn push_mode(out: &mut Vec<u8>, mode: u8) -> Result<(), NoMemory>
     ensures ok { OnOk result (out.new.items ≡ out.old.items ++ mode_word mode) }
     ensures err { OnErr result (out.new.items ≡ out.old.items) }
 {
-    push_word(out, if mode == 1 { "embed" } else { "full" })
+    push_word(out, if mode == NP_EMBED { "embed" } else { "full" })
 }
 
 /// Appends the word of a handler.
