@@ -1,6 +1,7 @@
 //! A peer that is a program of the platform.
 
-ghost use Rattle.std.specs.Prelude.{◌≡◌, ◌≤◌, ◌<◌, true, false, None, Err, is_some, length, IfOk, OnOk, OnErr};
+ghost use Rattle.std.specs.Prelude.{◌≡◌, ◌≤◌, ◌<◌, ◌∷◌, map, string_bytes, true, false, None, Err, is_some, length, IfOk, OnOk, OnErr};
+ghost use Rattle.std.specs.Process.{command_program, command_args};
 ghost use Rattle.np_ports.specs.declared.error.PortError.TheVariants.{Failed};
 ghost use Rattle.np_ports.specs.Causes.{HasCause, counted};
 ghost use Rattle.np_ports.specs.Peer.{EndsAt};
@@ -86,19 +87,27 @@ impl<R: Processes + FileSystem + Clock + Drop> ChildPeer<R> {
     }
 
     fn spawn(&self, words: &[String]) -> io::Result<Started<R::Started>> {
-        let Some((program, arguments)) = words.split_first() else {
-            return Err(io::Error::from(ErrorKind::InvalidInput));
-        };
-        let mut command = Command::new(self.alloc, program.as_str())?;
-        for word in arguments {
-            command.arg(word.as_str())?;
-        }
+        let mut command = command_of(self.alloc, words)?;
         let (output, input) = io::pipe(&self.runtime)?;
         command.stdin(Stdio::from(output));
         command.stdout(Stdio::piped());
         let process = command.spawn(&self.runtime)?;
         Ok(Started { process, input })
     }
+}
+
+/// The command of a program and its arguments.
+fn command_of(alloc: Global, words: &[String]) -> io::Result<Command>
+    ensures words { IfOk result (λ command. command_program command ∷ command_args command ≡ map (λ w. string_bytes w) words.now) }
+{
+    let Some((program, arguments)) = words.split_first() else {
+        return Err(io::Error::from(ErrorKind::InvalidInput));
+    };
+    let mut command = Command::new(alloc, program.as_str())?;
+    for word in arguments {
+        command.arg(word.as_str())?;
+    }
+    Ok(command)
 }
 
 fn read_output<P: OpenProcess>(child: &mut Option<Started<P>>, buf: &mut [u8]) -> io::Result<usize>

@@ -2,7 +2,7 @@
 
 ghost use Rattle.std.specs.Prelude.{◌≡◌, ◌<◌, ◌≤◌, true, false, None, length, IfOk, OnOk};
 ghost use Rattle.np_ports.specs.Causes.{HasCause, counted};
-ghost use Rattle.np_ports.specs.Adapters.{file_sink_is_open, file_sink_faults};
+ghost use Rattle.np_ports.specs.Adapters.{FileTook, file_sink_is_open, file_sink_faults};
 
 use crate::faults::{fail, refuse};
 use crate::{PortError, Sink};
@@ -36,6 +36,7 @@ impl<R: rt::Files + Drop> FileSink<R> {
     // A file that was made stays open, also where the write failed: what it holds is kept.
     fn write_some(&mut self, bytes: &[u8]) -> io::Result<usize>
         ensures bound { IfOk result (λ n. n ≤ length bytes.now) }
+        ensures bytes { FileTook R.File.contents self.old.«open» self.new.«open» result bytes.now }
         ensures faults { file_sink_faults self.new ≡ file_sink_faults self.old }
         ensures open { OnOk result (file_sink_is_open self.new ≡ true) }
         ensures kept { file_sink_is_open self.old ≡ true → file_sink_is_open self.new ≡ true }

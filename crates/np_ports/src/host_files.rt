@@ -1,7 +1,7 @@
 //! The files of the platform.
 
 ghost use Rattle.std.specs.Prelude.{◌≡◌, ◌≤◌, None, length, IfOk};
-ghost use Rattle.np_ports.specs.Adapters.{host_faults};
+ghost use Rattle.np_ports.specs.Adapters.{ReadAt, host_faults};
 
 use crate::faults::refuse;
 use crate::{Files, PortError};
@@ -47,6 +47,7 @@ impl<R: rt::Files + Drop> HostFiles<R> {
 
     fn read_at(&mut self, name: &str, at: u64, buf: &mut [u8]) -> io::Result<usize>
         ensures bound { IfOk result (λ n. n ≤ length buf.new) }
+        ensures there { IfOk result (λ n. ReadAt R.File.stream_position R.File.stream_bytes R.File.remaining self.new.«open» at n buf.new) }
         ensures faults { host_faults self.new ≡ host_faults self.old }
     {
         let mut file = self.opened(name)?;

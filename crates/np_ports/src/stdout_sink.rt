@@ -1,35 +1,47 @@
-//! Standard output.
+//! A sink over a writer.
 
-ghost use Rattle.std.specs.Prelude.{◌≡◌, None};
+ghost use Rattle.std.specs.Prelude.{◌≡◌, ◌≤◌, ◌<◌, length, IfOk, None};
+ghost use Rattle.std.specs.Io.KnownBytes.{WriteAppends};
+ghost use Rattle.np_ports.specs.Causes.{HasCause, counted};
 ghost use Rattle.np_ports.specs.Adapters.{stdout_faults};
 
 use crate::faults::{fail, refuse};
 use crate::{PortError, Sink};
-use std::io::{Stdout, Write};
+use std::io::Write;
 
-/// Standard output, with no buffer. A write to a pipe whose reader has gone fails, since a program starts
-/// with SIGPIPE ignored. It reports nothing of the bytes. This project's own.
+/// A writer, for a program its standard output, with no buffer. A write to a pipe whose reader has gone fails, since a
+/// program starts with SIGPIPE ignored. As a sink it reports nothing of the bytes; what the writer tells of them, `write`
+/// keeps. This project's own.
 #[derive(Drop)]
-pub struct StdoutSink {
-    stdout: Stdout,
+pub struct StdoutSink<W: Write + Drop> {
+    stdout: W,
     faults: u64,
 }
 
-impl StdoutSink {
+impl<W: Write + Drop> StdoutSink<W> {
     /// Standard output, with no failure yet.
-    pub fn new(stdout: Stdout) -> StdoutSink
-        ensures { stdout_faults result ≡ 0 }
+    pub fn new(stdout: W) -> StdoutSink<W>
+        ensures stdout { result.stdout ≡ stdout }
+        ensures faults { stdout_faults result ≡ 0 }
     {
         StdoutSink { stdout, faults: 0 }
     }
 }
 
-impl Sink for StdoutSink {
+impl<W: Write + Drop> Sink for StdoutSink<W> {
     ghost taken = { λ s. None };
 
     ghost faults = { stdout_faults };
 
-    fn write(&mut self, bytes: &[u8]) -> Result<usize, PortError> {
+    fn write(&mut self, bytes: &[u8]) -> Result<usize, PortError>
+        requires { 0 < length bytes.now }
+        ensures bound { IfOk result (λ n. (0 < n) × (n ≤ length bytes.now)) }
+        ensures cause { HasCause (stdout_faults self.old) (stdout_faults self.new) result }
+        ensures count { stdout_faults self.new ≡ counted (stdout_faults self.old) result }
+
+        // What is counted is what the writer got.
+        ensures bytes { WriteAppends (W.contents self.old.stdout) (W.contents self.new.stdout) result bytes.now }
+    {
         match self.stdout.write(bytes) {
             Ok(0) => fail(&mut self.faults),
             Ok(n) => Ok(n),
