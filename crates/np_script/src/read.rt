@@ -41,7 +41,7 @@ fn read_words(
         Err(FieldError::Limit) => return Err(LineError::Refused(ScriptKind::Limit)),
         Err(FieldError::NoMemory) => return Err(LineError::NoMemory),
     };
-    match order.accept(word, &fields) {
+    match order.accept(word, rest, &fields) {
         Ok(()) => {}
         Err(OrderError::Limit) => return Err(LineError::Refused(ScriptKind::Limit)),
         Err(OrderError::Twice) => return Err(LineError::Refused(ScriptKind::Twice)),

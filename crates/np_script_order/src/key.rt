@@ -1,11 +1,11 @@
 //! What a line declares, as a key of a set.
-ghost use Rattle.std.specs.Prelude.{◌≡◌, ◌≢◌, [], ◌∷◌, ◌++◌, true, false, IfOk, OnOk, OnErr, IsErrOf, Err};
-ghost use Rattle.np_script_grammar.specs.Order.{declared_by, is_among};
+ghost use Rattle.std.specs.Prelude.{◌≡◌, ◌≢◌, [], ◌∷◌, ◌++◌, ◌↔◌, bytes_eq, true, false, IfOk, OnOk, OnErr, IsErrOf, Err};
+ghost use Rattle.std.specs.List.{list_any};
+ghost use Rattle.np_script_order.specs.Keys.{joined, key_of, has_key};
 
 use crate::OrderError;
 use indexmap::IndexSet;
-use np_script_grammar::Fields;
-use np_script_words::push_field;
+use np_script_words::next_word;
 use np_values::NoMemory;
 use std::alloc::Global;
 use std::hash::{Hash, Hasher};
@@ -59,37 +59,105 @@ impl Hash for Key {
     }
 }
 
-/// What the line of this word and these fields declares.
-#[tactic(auto, using(crate::proofs::Keys::key_of_word, crate::proofs::Keys::key_of_two))]
-fn key_of(alloc: Global, word: &[u8], fields: &Fields) -> Result<Key, NoMemory>
-    ensures value { IfOk result (λ key. key ≡ declared_by (word.now, fields.now)) }
+/// Whether bytes are a space and this word.
+fn is_spaced(bytes: &[u8], word: &[u8]) -> bool
+    ensures value { result ≡ bytes_eq (32 ∷ word.now) bytes.now }
 {
-    let mut bytes = Vec::new(alloc);
-    bytes.extend_from_slice(word)?;
-    match fields.get(0) {
-        None => Ok(Key { bytes }),
-        Some(field) => {
-            bytes.push(b' ')?;
-            push_field(&mut bytes, field)?;
-            Ok(Key { bytes })
+    match bytes {
+        [b' ', behind @ ..] => word == behind,
+        _ => false,
+    }
+}
+
+impl Key {
+    /// A copy of these words.
+    fn new(alloc: Global, word: &[u8], name: Option<&[u8]>) -> Result<Key, NoMemory>
+        ensures value { IfOk result (λ key. key ≡ joined word.now name.entry) }
+    {
+        let mut bytes = Vec::new(alloc);
+        bytes.extend_from_slice(word)?;
+        match name {
+            None => Ok(Key { bytes }),
+            Some(name) => {
+                bytes.push(b' ')?;
+                bytes.extend_from_slice(name)?;
+                Ok(Key { bytes })
+            }
+        }
+    }
+
+    /// Whether it is the key of these words. It takes no memory.
+    #[tactic(auto, using(crate::proofs::Keys::begins_with_word, crate::proofs::Keys::begins_with_other))]
+    fn is_of(&self, word: &[u8], name: Option<&[u8]>) -> bool
+        ensures value { result ≡ bytes_eq (joined word.now name.entry) self.now }
+    {
+        match name {
+            None => word == self.bytes.as_slice(),
+            Some(name) => match self.bytes.as_slice().strip_prefix(word) {
+                Some(behind) => is_spaced(behind, name),
+                None => false,
+            },
         }
     }
 }
 
-/// Adds what the line of this word and these fields declares, if it isn't there.
-pub fn declare(declared: &mut IndexSet<Key>, word: &[u8], fields: &Fields) -> Result<(), OrderError>
-    ensures ok { OnOk result (declared.new.keys ≡ declared.old.keys ++ declared_by (word.now, fields.now) ∷ []) }
-    ensures fits { OnOk result (is_among declared.old.keys (word.now, fields.now) ≡ false) }
-    ensures twice { IsErrOf result OrderError.Twice → is_among declared.old.keys (word.now, fields.now) ≡ true }
+/// Whether one of the keys is that of these words. It looks at each, and takes no memory.
+fn is_among(keys: &[Key], word: &[u8], name: Option<&[u8]>) -> bool
+    ensures value { result ≡ list_any (bytes_eq (joined word.now name.entry)) keys.now }
+{
+    for key in keys {
+        if key.is_of(word, name) {
+            return true;
+        }
+    }
+    false
+}
+
+/// Adds a key, if it isn't there.
+fn insert(declared: &mut IndexSet<Key>, key: Key) -> Result<(), OrderError>
+    ensures ok { OnOk result (declared.new.keys ≡ declared.old.keys ++ key ∷ []) }
+    ensures fits { OnOk result (list_any (bytes_eq key) declared.old.keys ≡ false) }
+    ensures twice { IsErrOf result OrderError.Twice ↔ (list_any (bytes_eq key) declared.old.keys ≡ true) }
     ensures no_limit { result ≢ Err OrderError.Limit }
     ensures err { OnErr result (declared.new.keys ≡ declared.old.keys) }
 {
-    let alloc = *declared.allocator();
-    let key = key_of(alloc, word, fields)?;
     let (_, added) = declared.insert_full(key)?;
     if added {
         Ok(())
     } else {
         Err(OrderError::Twice)
+    }
+}
+
+/// The word at the front of a line's rest, if there is one.
+fn name_in(rest: &[u8]) -> Option<&[u8]>
+    ensures value { (word : _) → joined word result ≡ key_of word rest.now }
+{
+    match next_word(rest) {
+        Some((name, _)) => Some(name),
+        None => None,
+    }
+}
+
+/// Adds what the line of this word and this rest declares, if it isn't there.
+pub fn declare(declared: &mut IndexSet<Key>, word: &[u8], rest: &[u8]) -> Result<(), OrderError>
+    ensures ok { OnOk result (declared.new.keys ≡ declared.old.keys ++ key_of word.now rest.now ∷ []) }
+    ensures fits { OnOk result (has_key declared.old.keys word.now rest.now ≡ false) }
+    ensures twice { IsErrOf result OrderError.Twice ↔ (has_key declared.old.keys word.now rest.now ≡ true) }
+    ensures no_limit { result ≢ Err OrderError.Limit }
+    ensures err { OnErr result (declared.new.keys ≡ declared.old.keys) }
+{
+    let alloc = *declared.allocator();
+    let name = name_in(rest);
+    match Key::new(alloc, word, name) {
+        Ok(key) => insert(declared, key),
+        // Without memory for a key to look up, the keys are looked through.
+        Err(NoMemory) => {
+            if is_among(declared.as_slice(), word, name) {
+                Err(OrderError::Twice)
+            } else {
+                Err(OrderError::NoMemory)
+            }
+        }
     }
 }

@@ -1,5 +1,7 @@
 //! Where a reader of a script stands.
-ghost use Rattle.std.specs.Prelude.{◌≡◌, true, false, OnOk, OnErr, IsErrOf};
+ghost use Rattle.std.specs.Prelude.{◌≡◌, map, true, false, OnOk, OnErr, IsErrOf};
+ghost use Rattle.np_script_grammar.specs.Words.{words_of};
+ghost use Rattle.np_script_grammar.specs.Fields.{field_word};
 ghost use Rattle.np_script_grammar.specs.Order.{at_first, standing_after, counts_after, are_few, declares_twice};
 
 use crate::OrderError;
@@ -53,13 +55,18 @@ impl Order {
         self.place
     }
 
-    /// Continues after a line of this word and these fields.
-    pub fn accept(&mut self, word: &[u8], fields: &Fields) -> Result<(), OrderError>
+    /// Continues after a line of this word and these fields. `rest` is what stands after the word: its words are
+    /// those of the fields, so that a second declaration is found without memory.
+    #[tactic(auto, using(crate::proofs::Keys::key_of_line))]
+    pub fn accept(&mut self, word: &[u8], rest: &[u8], fields: &Fields) -> Result<(), OrderError>
+        requires spelled { words_of rest.now ≡ map field_word fields.now }
+
         ensures ok { OnOk result (self.new ≡ standing_after self.old (word.now, fields.now)) }
         ensures fits { OnOk result ((are_few (counts_after self.old.place self.old.counts (word.now, fields.now)) ≡ true)
             × (declares_twice self.old (word.now, fields.now) ≡ false)) }
 
-        // Each refusal; a limit comes before a second declaration.
+        // Each refusal, exactly where it comes; a limit comes before a second declaration. So memory can run out
+        // only where the line would be accepted.
         ensures limit { IsErrOf result OrderError.Limit →
             are_few (counts_after self.old.place self.old.counts (word.now, fields.now)) ≡ false }
         ensures limit_only { are_few (counts_after self.old.place self.old.counts (word.now, fields.now)) ≡ false →
@@ -67,6 +74,8 @@ impl Order {
         ensures twice { IsErrOf result OrderError.Twice →
             (are_few (counts_after self.old.place self.old.counts (word.now, fields.now)) ≡ true)
             × (declares_twice self.old (word.now, fields.now) ≡ true) }
+        ensures twice_only { are_few (counts_after self.old.place self.old.counts (word.now, fields.now)) ≡ true →
+            declares_twice self.old (word.now, fields.now) ≡ true → IsErrOf result OrderError.Twice }
         ensures err { OnErr result (self.new ≡ self.old) }
     {
         let counts = counted(self.place, self.counts, word, fields);
@@ -75,10 +84,10 @@ impl Order {
         }
         match self.place {
             Place::Top => {
-                declare(&mut self.at_top, word, fields)?;
+                declare(&mut self.at_top, word, rest)?;
                 self.in_class.clear();
             }
-            Place::Class => declare(&mut self.in_class, word, fields)?,
+            Place::Class => declare(&mut self.in_class, word, rest)?,
             _ => {}
         }
         self.place = behind(self.place, word);

@@ -1,46 +1,49 @@
 use super::*;
-use np_script_grammar::{Field, Fields, Place};
-use np_values::{NoMemory, Text};
+use np_script_grammar::Place;
+use np_script_words::{form_at, read_fields};
+use np_values::Side;
 use std::alloc::Global;
 use std::test::*;
 
-fn named(alloc: Global, name: &[u8]) -> Result<Fields, OrderError> {
-    let mut fields = Fields::new(alloc);
-    match Text::new(alloc, name) {
-        Ok(text) => fields.push(Field::Text(text))?,
-        Err(_) => return Err(OrderError::NoMemory),
+/// Continues a page after a line of this word and this rest.
+fn accept(alloc: Global, order: &mut Order, word: &[u8], rest: &[u8]) -> Result<(), OrderError> {
+    let Some(form) = form_at(Side::Page, order.place(), word) else {
+        return Err(OrderError::NoMemory);
+    };
+    match read_fields(alloc, form, rest) {
+        Ok(fields) => order.accept(word, rest, &fields),
+        Err(_) => Err(OrderError::NoMemory),
     }
-    Ok(fields)
 }
 
-/// Continues after lines that have no fields.
-fn accept_plain(alloc: Global, order: &mut Order, words: &[&[u8]]) -> Result<(), OrderError> {
-    for word in words {
-        order.accept(word, &Fields::new(alloc))?;
-    }
-    Ok(())
-}
-
-/// Continues after a line of this word and this name.
-fn accept_named(
+/// Continues a page after lines of these words and rests.
+fn accept_all(
     alloc: Global,
     order: &mut Order,
-    word: &[u8],
-    name: &[u8],
+    lines: &[(&[u8], &[u8])],
 ) -> Result<(), OrderError> {
-    order.accept(word, &named(alloc, name)?)
+    for (word, rest) in lines {
+        accept(alloc, order, word, rest)?;
+    }
+    Ok(())
 }
 
 #[test]
 fn a_class_has_one_default(rt: HostRuntime) -> Result<(), Fail> {
     let alloc = rt.alloc();
     let mut order = Order::new(alloc);
-    accept_plain(alloc, &mut order, &[b"page"])?;
-    accept_named(alloc, &mut order, b"class", b"A")?;
-    accept_plain(alloc, &mut order, &[b"default"])?;
+    accept_all(
+        alloc,
+        &mut order,
+        &[
+            (b"page", b" 0 27"),
+            (b"class", b" \"A\" 1"),
+            (b"default", b""),
+        ],
+    )?;
     assert!(rt; order.place() == Place::MemberBody);
-    accept_plain(alloc, &mut order, &[b"end"])?;
-    assert!(rt; accept_plain(alloc, &mut order, &[b"default"]) == Err(OrderError::Twice));
+    accept_all(alloc, &mut order, &[(b"end", b"")])?;
+    assert!(rt; accept(alloc, &mut order, b"default", b" ") == Err(OrderError::Twice));
     Ok(())
 }
 
@@ -48,11 +51,20 @@ fn a_class_has_one_default(rt: HostRuntime) -> Result<(), Fail> {
 fn a_class_of_that_name_is_there(rt: HostRuntime) -> Result<(), Fail> {
     let alloc = rt.alloc();
     let mut order = Order::new(alloc);
-    accept_plain(alloc, &mut order, &[b"page"])?;
-    accept_named(alloc, &mut order, b"class", b"A")?;
-    accept_plain(alloc, &mut order, &[b"default", b"end", b"endclass"])?;
-    assert!(rt; accept_named(alloc, &mut order, b"class", b"A") == Err(OrderError::Twice));
-    accept_named(alloc, &mut order, b"class", b"B")?;
-    accept_plain(alloc, &mut order, &[b"default"])?;
+    accept_all(
+        alloc,
+        &mut order,
+        &[
+            (b"page", b" 0 27"),
+            (b"class", b" \"A\" 1"),
+            (b"endclass", b""),
+        ],
+    )?;
+    assert!(rt; accept(alloc, &mut order, b"class", b"  \"A\"  2") == Err(OrderError::Twice));
+    accept_all(
+        alloc,
+        &mut order,
+        &[(b"class", b" \"AA\" 1"), (b"default", b"")],
+    )?;
     Ok(())
 }
