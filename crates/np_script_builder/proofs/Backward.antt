@@ -21,9 +21,10 @@ use Rattle.np_script_grammar.specs.Tables.{head_table}
 use Rattle.np_script_grammar.specs.Rows.{number, command_line}
 use Rattle.np_script_grammar.specs.Scripts.{alone, declaration_lines, HasContent}
 use Rattle.np_script_grammar.specs.Order.{at_first, AreInOrder}
-use Rattle.np_script_actions.proofs.Tables.{of_only}
+use Rattle.np_script_builder.proofs.RowLaws.{AreRead}
+use Rattle.np_script_builder.proofs.FormFields.{of_only}
 use Rattle.np_script_builder.specs.declared.state.Building.{Building}
-use Rattle.np_script_builder.specs.Building.{at_start, built_after, built, page_in, plugin_in}
+use Rattle.np_script_builder.specs.Building.{at_start, built_after, page_in, plugin_in}
 use Rattle.np_script_builder.specs.Laws.{PagesAreBuilt, PluginsAreBuilt}
 use Rattle.np_script_builder.proofs.SaidSoFar.{head_word}
 use Rattle.np_script_builder.proofs.Parts.{AreListed, are_listed, front_listed, listed_behind, Leads, leads_by, leads_further}
@@ -73,9 +74,9 @@ same_plugin p q a b c d e =
     ∙ (ap (λ (x : List ClassDef). plugin_of q.major q.minor x p.handlers p.tasks) c
     ∙ (ap (λ (x : List HandlerDef). plugin_of q.major q.minor q.classes x p.tasks) d ∙ ap (λ (x : List TaskDef). plugin_of q.major q.minor q.classes q.handlers x) e)))
 
-pub pages_are_built : PagesAreBuilt
+pub pages_are_built : AreRead → PagesAreBuilt
 unfolding built_after
-pages_are_built lines page order is =
+pages_are_built laws lines page order is =
     let ds = is.declarations in
     let commands : List Line = map command_line page.commands in
     let tops : List Line = flat_map declaration_lines ds in
@@ -83,11 +84,11 @@ pages_are_built lines page order is =
     let listed : AreListed sides.Page Head (head ∷ (tops ++ alone (codes "do") ∷ commands)) =
     are_listed sides.Page at_first (head ∷ (tops ++ alone (codes "do") ∷ commands)) (subst (AreInOrder sides.Page at_first) is.lines_are order) in
     let first = begun page.major page.minor in
-    let added = all_add sides.Page first ds (front_listed sides.Page Top tops (alone (codes "do") ∷ commands) listed.1) in
+    let added = all_add laws sides.Page first ds (front_listed sides.Page Top tops (alone (codes "do") ∷ commands) listed.1) in
     let behind = listed_behind sides.Page Top first tops (alone (codes "do") ∷ commands) Top added.next added.leads listed.1 in
     let last : Building = record added.next { commands = added.next.commands ++ page.commands } in
     let does : Leads Top added.next (alone (codes "do") ∷ []) Commands added.next = leads_by Top added.next (alone (codes "do")) Commands added.next refl refl in
-    let ends = leads_further Top added.next (alone (codes "do") ∷ []) commands Commands Commands added.next last does (commands_lead sides.Page added.next page.commands behind.1) in
+    let ends = leads_further Top added.next (alone (codes "do") ∷ []) commands Commands Commands added.next last does (commands_lead laws sides.Page added.next page.commands behind.1) in
     let all = as_these lines _ Commands last is.lines_are
     (leads_further Head at_start (head ∷ []) (tops ++ alone (codes "do") ∷ commands) Top Commands first last (head_leads sides.Page page.major page.minor listed.0)
     (leads_further Top first tops (alone (codes "do") ∷ commands) Top Commands added.next last added.leads ends)) in
@@ -101,14 +102,14 @@ pages_are_built lines page order is =
       ),
     )
 
-pub plugins_are_built : PluginsAreBuilt
-plugins_are_built lines plugin order is =
+pub plugins_are_built : AreRead → PluginsAreBuilt
+plugins_are_built laws lines plugin order is =
     let ds = is.declarations in
     let tops : List Line = flat_map declaration_lines ds in
     let head : Line = head_line sides.Plug plugin.major plugin.minor in
     let listed : AreListed sides.Plug Head (head ∷ tops) = are_listed sides.Plug at_first (head ∷ tops) (subst (AreInOrder sides.Plug at_first) is.lines_are order) in
     let first = begun plugin.major plugin.minor in
-    let added = all_add sides.Plug first ds listed.1 in
+    let added = all_add laws sides.Plug first ds listed.1 in
     let all = as_these lines _ Top added.next is.lines_are
     (leads_further Head at_start (head ∷ []) tops Top Top first added.next (head_leads sides.Plug plugin.major plugin.minor listed.0) added.leads) in (
       all.reaches,

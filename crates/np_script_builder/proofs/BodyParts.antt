@@ -11,7 +11,7 @@ use Rattle.np_script_grammar.specs.Tables.{action_table, body_table, table_at}
 use Rattle.np_script_grammar.specs.Rows.{action_line}
 use Rattle.np_script_grammar.specs.Scripts.{place_after}
 use Rattle.np_script_actions.specs.Actions.{action_of}
-use Rattle.np_script_actions.proofs.ActionTables.{are_read}
+use Rattle.np_script_builder.proofs.RowLaws.{AreRead}
 use Rattle.np_script_builder.specs.declared.state.Unfinished.{Unfinished}
 use Rattle.np_script_builder.specs.declared.state.Building.{Building}
 use Rattle.np_script_builder.specs.Building.{built_after}
@@ -59,21 +59,21 @@ pub record IsBody (side : Side) (place : Place) (unfinished : List Action → Un
       → built_after place (record b { unfinished = unfinished body }) (word, fields) ≡ Some (record b { unfinished = unfinished (body ++ action ∷ []) })
 
 -- one action
-one_action : (side : Side) (place : Place) (unfinished : List Action → Unfinished) → IsBody side place unfinished → (b : Building) (body : List Action) (action : Action) → AreListed side place (action_line action ∷ [])
+one_action : AreRead → (side : Side) (place : Place) (unfinished : List Action → Unfinished) → IsBody side place unfinished → (b : Building) (body : List Action) (action : Action) → AreListed side place (action_line action ∷ [])
     → Leads place (record b { unfinished = unfinished body }) (action_line action ∷ []) place (record b { unfinished = unfinished (body ++ action ∷ []) })
-one_action side place unfinished is b body action all =
+one_action laws side place unfinished is b body action all =
     let listed : IsOf (body_table side) (action_line action) = subst (λ t. IsOf t (action_line action)) is.table_is all.0 in
     let own : IsOf (action_table side) (action_line action) = of_others _ (action_table side) (action_line action).0 (action_line action).1 (no_end action) listed in
-    let read : action_of (action_line action).0 (action_line action).1 ≡ Some action = are_read side action own in
+    let read : action_of (action_line action).0 (action_line action).1 ≡ Some action = laws.actions side action own in
     leads_by place _ (action_line action) place _ (is.stays (action_line action).0 (no_end action)) (is.grows b body (action_line action).0 (action_line action).1 action (no_end action) read)
 
 -- all of them
-pub actions_lead : (side : Side) (place : Place) (unfinished : List Action → Unfinished) → IsBody side place unfinished → (b : Building) (body more : List Action) → AreListed side place (map action_line more)
+pub actions_lead : AreRead → (side : Side) (place : Place) (unfinished : List Action → Unfinished) → IsBody side place unfinished → (b : Building) (body more : List Action) → AreListed side place (map action_line more)
     → Leads place (record b { unfinished = unfinished body }) (map action_line more) place (record b { unfinished = unfinished (body ++ more) })
-actions_lead side place unfinished is b body [] all =
+actions_lead laws side place unfinished is b body [] all =
     subst (λ (l : List Action). Leads place (record b { unfinished = unfinished body }) [] place (record b { unfinished = unfinished l })) (sym (append-nil body)) (leads_nowhere place (record b { unfinished = unfinished body }))
-actions_lead side place unfinished is b body (action ∷ more) all =
-    let others = actions_lead side place unfinished is b (body ++ action ∷ []) more in
+actions_lead laws side place unfinished is b body (action ∷ more) all =
+    let others = actions_lead laws side place unfinished is b (body ++ action ∷ []) more in
     let joined = both_lead side place (record b { unfinished = unfinished body }) (action_line action ∷ []) (map action_line more) place place (record b { unfinished = unfinished (body ++ action ∷ []) })
-    (record b { unfinished = unfinished ((body ++ action ∷ []) ++ more) }) (one_action side place unfinished is b body action) others all in
+    (record b { unfinished = unfinished ((body ++ action ∷ []) ++ more) }) (one_action laws side place unfinished is b body action) others all in
     subst (λ (l : List Action). Leads place (record b { unfinished = unfinished body }) (action_line action ∷ map action_line more) place (record b { unfinished = unfinished l })) (append_assoc body (action ∷ []) more) joined

@@ -13,14 +13,13 @@ use Rattle.np_script_grammar.specs.declared.plugin.HandlerDef.{HandlerDef}
 use Rattle.np_script_grammar.specs.declared.plugin.TaskDef.{TaskDef}
 use Rattle.np_script_grammar.specs.declared.place.Place.TheVariants.{Top, Class, MemberBody, Body}
 use Rattle.np_script_grammar.specs.declared.line.Field.{Field}
-use Rattle.np_script_grammar.specs.declared.line.Field.TheVariants as fields
 use Rattle.np_script_grammar.specs.Forms.{Line, are_of, IsOf}
 use Rattle.np_script_grammar.specs.Tables.{action_table, body_table}
 use Rattle.np_script_grammar.specs.Rows.{action_line}
 use Rattle.np_script_grammar.specs.Scripts.{OfHandler as HandlerDeclared, OfTask as TaskDeclared, alone, body_lines, member_opening, member_body, member_lines}
 use Rattle.np_script_actions.specs.Actions.{action_of}
-use Rattle.np_script_actions.proofs.Tables.{without_groups}
-use Rattle.np_script_actions.proofs.ActionTables.{lines_say, were_lines}
+use Rattle.np_script_builder.proofs.RowLaws.{LinesSay}
+use Rattle.np_script_builder.proofs.FormFields.{without_groups}
 use Rattle.np_script_builder.specs.declared.state.Unfinished.TheVariants.{Nothing, OfClass, OfMember, OfHandler, OfTask}
 use Rattle.np_script_builder.specs.declared.state.Building.{Building}
 use Rattle.np_script_builder.specs.Building.{built_after, with_action}
@@ -91,14 +90,14 @@ member_end side in_class b lines said [] e =
     }
 member_end side in_class b lines said fields e = absurd (grind (arith, nat_tests, and_parts))
 
-member_action : (side : Side) (in_class : List (List ℕ)) (b : Building) (lines : List Line) (word : List ℕ) (fields : List Field) → SaysMember side in_class b lines
+member_action : LinesSay → (side : Side) (in_class : List (List ℕ)) (b : Building) (lines : List Line) (word : List ℕ) (fields : List Field) → SaysMember side in_class b lines
     → bytes_eq word (codes "end") ≡ false → IsOf (action_table side) (word, fields) → Goes side MemberBody in_class b lines word fields
 unfolding built_after
-member_action side in_class b lines word fields said test is =
-    let says = lines_say side (word, fields) is in
+member_action laws side in_class b lines word fields said test is =
+    let says = laws.say_actions side (word, fields) is in
     let action : Action = says.0 in
     let given : action_of word fields ≡ Some action = says.1 in
-    let was : action_line action ≡ (word, fields) = were_lines word fields action given in
+    let was : action_line action ≡ (word, fields) = laws.were_actions word fields action given in
     let open_class = said.opened in
     let member : Member = with_action said.member action in
     let next : Building = record b { unfinished = OfMember said.class member } in
@@ -129,11 +128,11 @@ member_action side in_class b lines word fields said test is =
       says = subst (λ (t : Bool). Says side (cond t Class MemberBody) in_class next (lines ++ (word, fields) ∷ [])) (sym test) says_member;
     }
 
-pub member_step : (side : Side) (in_class : List (List ℕ)) (b : Building) (lines : List Line) (word : List ℕ) (fields : List Field) → SaysMember side in_class b lines → IsOf (body_table side) (word, fields)
+pub member_step : LinesSay → (side : Side) (in_class : List (List ℕ)) (b : Building) (lines : List Line) (word : List ℕ) (fields : List Field) → SaysMember side in_class b lines → IsOf (body_table side) (word, fields)
     → Goes side MemberBody in_class b lines word fields
-member_step side in_class b lines word fields said is =
+member_step laws side in_class b lines word fields said is =
     by_first (Goes side MemberBody in_class b lines) _ (action_table side) word fields (λ f h. member_end side in_class b lines said f (without_groups [] f h))
-    (λ test others. member_action side in_class b lines word fields said test others) is
+    (λ test others. member_action laws side in_class b lines word fields said test others) is
 
 -- ---- handlers
 
@@ -152,14 +151,14 @@ handler_end side in_class b lines said [] e =
     }
 handler_end side in_class b lines said fields e = absurd (grind (arith, nat_tests, and_parts))
 
-handler_action : (side : Side) (in_class : List (List ℕ)) (b : Building) (lines : List Line) (word : List ℕ) (fields : List Field) → SaysHandler side b lines
+handler_action : LinesSay → (side : Side) (in_class : List (List ℕ)) (b : Building) (lines : List Line) (word : List ℕ) (fields : List Field) → SaysHandler side b lines
     → bytes_eq word (codes "end") ≡ false → IsOf (action_table side) (word, fields) → Goes side Body in_class b lines word fields
 unfolding built_after
-handler_action side in_class b lines word fields said test is =
-    let says = lines_say side (word, fields) is in
+handler_action laws side in_class b lines word fields said test is =
+    let says = laws.say_actions side (word, fields) is in
     let action : Action = says.0 in
     let given : action_of word fields ≡ Some action = says.1 in
-    let was : action_line action ≡ (word, fields) = were_lines word fields action given in
+    let was : action_line action ≡ (word, fields) = laws.were_actions word fields action given in
     let handler : HandlerDef = record said.handler { body = said.handler.body ++ action ∷ [] } in
     let next : Building = record b { unfinished = OfHandler handler } in
     let says_handler : SaysHandler side next (lines ++ (word, fields) ∷ []) = record {
@@ -176,11 +175,11 @@ handler_action side in_class b lines word fields said test is =
       says = subst (λ (t : Bool). Says side (cond t Top Body) in_class next (lines ++ (word, fields) ∷ [])) (sym test) (inl says_handler);
     }
 
-handler_step : (side : Side) (in_class : List (List ℕ)) (b : Building) (lines : List Line) (word : List ℕ) (fields : List Field) → SaysHandler side b lines → IsOf (body_table side) (word, fields)
+handler_step : LinesSay → (side : Side) (in_class : List (List ℕ)) (b : Building) (lines : List Line) (word : List ℕ) (fields : List Field) → SaysHandler side b lines → IsOf (body_table side) (word, fields)
     → Goes side Body in_class b lines word fields
-handler_step side in_class b lines word fields said is =
+handler_step laws side in_class b lines word fields said is =
     by_first (Goes side Body in_class b lines) _ (action_table side) word fields (λ f h. handler_end side in_class b lines said f (without_groups [] f h))
-    (λ test others. handler_action side in_class b lines word fields said test others) is
+    (λ test others. handler_action laws side in_class b lines word fields said test others) is
 
 -- ---- tasks
 
@@ -199,14 +198,14 @@ task_end side in_class b lines said [] e =
     }
 task_end side in_class b lines said fields e = absurd (grind (arith, nat_tests, and_parts))
 
-task_action : (side : Side) (in_class : List (List ℕ)) (b : Building) (lines : List Line) (word : List ℕ) (fields : List Field) → SaysTask side b lines
+task_action : LinesSay → (side : Side) (in_class : List (List ℕ)) (b : Building) (lines : List Line) (word : List ℕ) (fields : List Field) → SaysTask side b lines
     → bytes_eq word (codes "end") ≡ false → IsOf (action_table side) (word, fields) → Goes side Body in_class b lines word fields
 unfolding built_after
-task_action side in_class b lines word fields said test is =
-    let says = lines_say side (word, fields) is in
+task_action laws side in_class b lines word fields said test is =
+    let says = laws.say_actions side (word, fields) is in
     let action : Action = says.0 in
     let given : action_of word fields ≡ Some action = says.1 in
-    let was : action_line action ≡ (word, fields) = were_lines word fields action given in
+    let was : action_line action ≡ (word, fields) = laws.were_actions word fields action given in
     let task : TaskDef = record said.task { body = said.task.body ++ action ∷ [] } in
     let next : Building = record b { unfinished = OfTask task } in
     let says_task : SaysTask side next (lines ++ (word, fields) ∷ []) = record {
@@ -223,13 +222,13 @@ task_action side in_class b lines word fields said test is =
       says = subst (λ (t : Bool). Says side (cond t Top Body) in_class next (lines ++ (word, fields) ∷ [])) (sym test) (inr says_task);
     }
 
-task_step : (side : Side) (in_class : List (List ℕ)) (b : Building) (lines : List Line) (word : List ℕ) (fields : List Field) → SaysTask side b lines → IsOf (body_table side) (word, fields)
+task_step : LinesSay → (side : Side) (in_class : List (List ℕ)) (b : Building) (lines : List Line) (word : List ℕ) (fields : List Field) → SaysTask side b lines → IsOf (body_table side) (word, fields)
     → Goes side Body in_class b lines word fields
-task_step side in_class b lines word fields said is =
+task_step laws side in_class b lines word fields said is =
     by_first (Goes side Body in_class b lines) _ (action_table side) word fields (λ f h. task_end side in_class b lines said f (without_groups [] f h))
-    (λ test others. task_action side in_class b lines word fields said test others) is
+    (λ test others. task_action laws side in_class b lines word fields said test others) is
 
-pub body_step : (side : Side) (in_class : List (List ℕ)) (b : Building) (lines : List Line) (word : List ℕ) (fields : List Field) → SaysHandler side b lines ⊎ SaysTask side b lines
+pub body_step : LinesSay → (side : Side) (in_class : List (List ℕ)) (b : Building) (lines : List Line) (word : List ℕ) (fields : List Field) → SaysHandler side b lines ⊎ SaysTask side b lines
     → IsOf (body_table side) (word, fields) → Goes side Body in_class b lines word fields
-body_step side in_class b lines word fields (inl said) is = handler_step side in_class b lines word fields said is
-body_step side in_class b lines word fields (inr said) is = task_step side in_class b lines word fields said is
+body_step laws side in_class b lines word fields (inl said) is = handler_step laws side in_class b lines word fields said is
+body_step laws side in_class b lines word fields (inr said) is = task_step laws side in_class b lines word fields said is

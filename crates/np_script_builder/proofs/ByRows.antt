@@ -2,9 +2,9 @@
 use Rattle.std.proofs.Common.{◌≡◌, ℕ, List, [], ◌∷◌, Bool, true, false, cond, Some, refl, sym, subst}
 use Rattle.std.specs.Prelude.{bytes_eq}
 use Rattle.std.specs.List.{AllByRecursion}
+use Rattle.std.proofs.lemmas.Slice.Eq.{bytes_eq-Decides}
 use Rattle.np_script_grammar.specs.declared.line.Field.{Field}
 use Rattle.np_script_grammar.specs.Forms.{Form, Table, form_of, HasForm, IsOf}
-use Rattle.np_script_actions.proofs.Tables.{bytes_same}
 
 -- what holds of all fields of a row
 abbrev pub RowHas : (List ℕ → List Field → Type 0) → List ℕ × Form → Type 0
@@ -17,7 +17,7 @@ in_row : (P : List ℕ → List Field → Type 0) (t : Bool) (row : List ℕ × 
     → (form_of table word ≡ Some form → P word fields) → form_of (row ∷ table) word ≡ Some form → HasForm form fields → P word fields
 in_row P true row table word form fields test has others e h =
     let here : Some row.1 ≡ Some form = subst (λ (t : Bool). cond t (Some row.1) (form_of table word) ≡ Some form) test e in
-    subst (λ (w : List ℕ). P w fields) (sym (bytes_same word row.0 test)) (has fields (subst (λ (f : Form). HasForm f fields) (same_form row.1 form here) h))
+    subst (λ (w : List ℕ). P w fields) (sym ((bytes_eq-Decides word row.0).0 test)) (has fields (subst (λ (f : Form). HasForm f fields) (same_form row.1 form here) h))
 in_row P false row table word form fields test has others e h =
     others (subst (λ (t : Bool). cond t (Some row.1) (form_of table word) ≡ Some form) test e)
 
@@ -43,7 +43,7 @@ split : (P : List ℕ → List Field → Type 0) (t : Bool) (row : List ℕ × F
     → (bytes_eq word row.0 ≡ false → IsOf table (word, fields) → P word fields) → IsOf (row ∷ table) (word, fields) → P word fields
 split P true row table word fields test has others is =
     let here : Some row.1 ≡ Some is.form = subst (λ (t : Bool). cond t (Some row.1) (form_of table word) ≡ Some is.form) test is.listed in
-    subst (λ (w : List ℕ). P w fields) (sym (bytes_same word row.0 test)) (has fields (subst (λ (f : Form). HasForm f fields) (same_form row.1 is.form here) is.of_form))
+    subst (λ (w : List ℕ). P w fields) (sym ((bytes_eq-Decides word row.0).0 test)) (has fields (subst (λ (f : Form). HasForm f fields) (same_form row.1 is.form here) is.of_form))
 split P false row table word fields test has others is = others test (of_others row table word fields test is)
 
 -- by the first row, or by the others

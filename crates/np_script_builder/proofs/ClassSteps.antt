@@ -17,7 +17,7 @@ use Rattle.np_script_grammar.specs.Tables.{class_table}
 use Rattle.np_script_grammar.specs.Rows.{action_line}
 use Rattle.np_script_grammar.specs.Scripts.{OfClass as ClassDeclared, alone, class_lines, member_opening, member_body}
 use Rattle.np_script_grammar.specs.Order.{is_among}
-use Rattle.np_script_actions.proofs.Tables.{without_groups}
+use Rattle.np_script_builder.proofs.FormFields.{without_groups}
 use Rattle.np_script_builder.specs.declared.state.Unfinished.{Unfinished}
 use Rattle.np_script_builder.specs.declared.state.Unfinished.TheVariants.{Nothing, OfClass, OfMember}
 use Rattle.np_script_builder.specs.declared.state.Building.{Building}

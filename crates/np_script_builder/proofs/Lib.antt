@@ -1,3 +1,6 @@
+pub mod FirstGiven
+pub mod FormFields
+pub mod RowLaws
 pub mod Contents
 pub mod GoingOn
 pub mod ByRows

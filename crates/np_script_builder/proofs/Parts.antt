@@ -6,7 +6,7 @@ use Rattle.np_script_grammar.specs.Forms.{Line, IsOf}
 use Rattle.np_script_grammar.specs.Tables.{table_at}
 use Rattle.np_script_grammar.specs.Scripts.{place_after, place_behind}
 use Rattle.np_script_grammar.specs.Order.{Standing, standing_after, AreInOrder}
-use Rattle.np_script_actions.proofs.Taken.{bound}
+use Rattle.np_script_builder.proofs.FirstGiven.{given_first}
 use Rattle.np_script_builder.specs.declared.state.Building.{Building}
 use Rattle.np_script_builder.specs.Building.{built_after, built_from}
 
@@ -49,7 +49,7 @@ same a b e = cc
 built_further : (place : Place) (b : Building) (front behind : List Line) (next : Building) → built_from place b front ≡ Some next → built_from place b (front ++ behind) ≡ built_from (place_behind place front) next behind
 built_further place b [] behind next e = ap (λ (x : Building). built_from place x behind) (same b next e)
 built_further place b (line ∷ front) behind next e =
-    let found = bound (built_after place b line) (λ x. built_from (place_after place line.0) x front) next e in
+    let found = given_first (built_after place b line) (λ x. built_from (place_after place line.0) x front) next e in
     rw found.1 (built_further (place_after place line.0) found.0 front behind next found.2)
 
 -- one part behind another

@@ -12,7 +12,7 @@ use Rattle.np_script_grammar.specs.Forms.{Line}
 use Rattle.np_script_grammar.specs.Rows.{command_line}
 use Rattle.np_script_grammar.specs.Scripts.{Declaration, OfClass, OfResource, OfHandler, OfTask, declaration_lines, class_in, resource_in, handler_in, task_in, HasContent, copies, handler_lines, resource_line, task_lines}
 use Rattle.np_script_actions.specs.Commands.{command_of}
-use Rattle.np_script_actions.proofs.CommandTables.{are_read}
+use Rattle.np_script_builder.proofs.RowLaws.{AreRead}
 use Rattle.np_script_builder.specs.declared.state.Unfinished.TheVariants.{Nothing, OfHandler as HandlerUnfinished, OfTask as TaskUnfinished}
 use Rattle.np_script_builder.specs.declared.state.Building.{Building}
 use Rattle.np_script_builder.specs.Building.{built_after}
@@ -26,20 +26,20 @@ handler_is_body : (side : Side) (handler : HandlerDef) → IsBody side Body (λ 
 unfolding built_after
 handler_is_body side handler = record { table_is = refl; stays = λ word test. rw test refl; grows = λ b body word fields action test given. rw (test, given) refl }
 
-handler_leads : (side : Side) (b : Building) (handler : HandlerDef) → AreListed side Top (handler_lines handler)
+handler_leads : AreRead → (side : Side) (b : Building) (handler : HandlerDef) → AreListed side Top (handler_lines handler)
     → Leads Top b (handler_lines handler) Top (record b { handlers = b.handlers ++ handler ∷ []; unfinished = Nothing })
 unfolding built_after
-handler_leads side b handler all =
-    body_leads side Top Body Top (λ body. HandlerUnfinished (record handler { body = body })) (handler_is_body side handler) b b _ _ handler.body (leads_by Top _ _ Body _ refl refl) (leads_by Body _ _ Top _ refl refl) all
+handler_leads laws side b handler all =
+    body_leads laws side Top Body Top (λ body. HandlerUnfinished (record handler { body = body })) (handler_is_body side handler) b b _ _ handler.body (leads_by Top _ _ Body _ refl refl) (leads_by Body _ _ Top _ refl refl) all
 
 task_is_body : (side : Side) (task : TaskDef) → IsBody side Body (λ body. TaskUnfinished (record task { body = body }))
 unfolding built_after
 task_is_body side task = record { table_is = refl; stays = λ word test. rw test refl; grows = λ b body word fields action test given. rw (test, given) refl }
 
-task_leads : (side : Side) (b : Building) (task : TaskDef) → AreListed side Top (task_lines task) → Leads Top b (task_lines task) Top (record b { tasks = b.tasks ++ task ∷ []; unfinished = Nothing })
+task_leads : AreRead → (side : Side) (b : Building) (task : TaskDef) → AreListed side Top (task_lines task) → Leads Top b (task_lines task) Top (record b { tasks = b.tasks ++ task ∷ []; unfinished = Nothing })
 unfolding built_after
-task_leads side b task all =
-    body_leads side Top Body Top (λ body. TaskUnfinished (record task { body = body })) (task_is_body side task) b b _ _ task.body (leads_by Top _ _ Body _ refl refl) (leads_by Body _ _ Top _ refl refl) all
+task_leads laws side b task all =
+    body_leads laws side Top Body Top (λ body. TaskUnfinished (record task { body = body })) (task_is_body side task) b b _ _ task.body (leads_by Top _ _ Body _ refl refl) (leads_by Body _ _ Top _ refl refl) all
 
 -- ---- declarations
 
@@ -59,11 +59,11 @@ pub record Adds (b : Building) (lines : List Line) (classes : List ClassDef) (re
 abbrev carrying : Resource → List ℕ → Resource
 carrying resource content = record resource { content = content }
 
-adds : (side : Side) (b : Building) (d : Declaration) → AreListed side Top (declaration_lines d) → Adds b (declaration_lines d) (class_in d) (resource_in d) (handler_in d) (task_in d)
+adds : AreRead → (side : Side) (b : Building) (d : Declaration) → AreListed side Top (declaration_lines d) → Adds b (declaration_lines d) (class_in d) (resource_in d) (handler_in d) (task_in d)
 unfolding built_after
-adds side b (OfClass before class) all = record {
+adds laws side b (OfClass before class) all = record {
   next = record b { classes = b.classes ++ class ∷ []; unfinished = Nothing };
-  leads = class_leads side b before class all;
+  leads = class_leads laws side b before class all;
   major_is = refl;
   minor_is = refl;
   classes_are = refl;
@@ -72,7 +72,7 @@ adds side b (OfClass before class) all = record {
   tasks_are = sym (append-nil b.tasks);
   commands_are = refl;
 }
-adds side b (OfResource resource) all = record {
+adds laws side b (OfResource resource) all = record {
   next = record b { resources = b.resources ++ carrying resource (copies resource.times resource.piece) ∷ [] };
   leads = leads_by Top b (resource_line resource) Top _ refl refl;
   major_is = refl;
@@ -83,9 +83,9 @@ adds side b (OfResource resource) all = record {
   tasks_are = sym (append-nil b.tasks);
   commands_are = refl;
 }
-adds side b (OfHandler handler) all = record {
+adds laws side b (OfHandler handler) all = record {
   next = record b { handlers = b.handlers ++ handler ∷ []; unfinished = Nothing };
-  leads = handler_leads side b handler all;
+  leads = handler_leads laws side b handler all;
   major_is = refl;
   minor_is = refl;
   classes_are = sym (append-nil b.classes);
@@ -94,9 +94,9 @@ adds side b (OfHandler handler) all = record {
   tasks_are = sym (append-nil b.tasks);
   commands_are = refl;
 }
-adds side b (OfTask task) all = record {
+adds laws side b (OfTask task) all = record {
   next = record b { tasks = b.tasks ++ task ∷ []; unfinished = Nothing };
-  leads = task_leads side b task all;
+  leads = task_leads laws side b task all;
   major_is = refl;
   minor_is = refl;
   classes_are = sym (append-nil b.classes);
@@ -118,9 +118,9 @@ others_have [] ys all = all
 others_have (x ∷ xs) ys all = others_have xs ys all.1
 
 -- all of them
-pub all_add : (side : Side) (b : Building) (ds : List Declaration) → AreListed side Top (flat_map declaration_lines ds)
+pub all_add : AreRead → (side : Side) (b : Building) (ds : List Declaration) → AreListed side Top (flat_map declaration_lines ds)
     → Adds b (flat_map declaration_lines ds) (flat_map class_in ds) (flat_map resource_in ds) (flat_map handler_in ds) (flat_map task_in ds)
-all_add side b [] all = record {
+all_add laws side b [] all = record {
   next = b;
   leads = leads_nowhere Top b;
   major_is = refl;
@@ -131,11 +131,11 @@ all_add side b [] all = record {
   tasks_are = sym (append-nil b.tasks);
   commands_are = refl;
 }
-all_add side b (d ∷ ds) all =
+all_add laws side b (d ∷ ds) all =
     let front = declaration_lines d in
     let behind = flat_map declaration_lines ds in
-    let first = adds side b d (front_listed side Top front behind all) in
-    let others = all_add side first.next ds (listed_behind side Top b front behind Top first.next first.leads all) in
+    let first = adds laws side b d (front_listed side Top front behind all) in
+    let others = all_add laws side first.next ds (listed_behind side Top b front behind Top first.next first.leads all) in
     record {
       next = others.next;
       leads = leads_further Top b front behind Top Top first.next others.next first.leads others.leads;
@@ -151,16 +151,16 @@ all_add side b (d ∷ ds) all =
 
 -- ---- commands
 
-command_leads : (side : Side) (b : Building) (command : Command) → AreListed side Commands (command_line command ∷ []) → Leads Commands b (command_line command ∷ []) Commands (record b { commands = b.commands ++ command ∷ [] })
+command_leads : AreRead → (side : Side) (b : Building) (command : Command) → AreListed side Commands (command_line command ∷ []) → Leads Commands b (command_line command ∷ []) Commands (record b { commands = b.commands ++ command ∷ [] })
 unfolding built_after
-command_leads side b command all =
-    let read : command_of (command_line command).0 (command_line command).1 ≡ Some command = are_read command all.0 in
+command_leads laws side b command all =
+    let read : command_of (command_line command).0 (command_line command).1 ≡ Some command = laws.commands command all.0 in
     leads_by Commands b (command_line command) Commands _ refl (rw read refl)
 
-pub commands_lead : (side : Side) (b : Building) (commands : List Command) → AreListed side Commands (map command_line commands)
+pub commands_lead : AreRead → (side : Side) (b : Building) (commands : List Command) → AreListed side Commands (map command_line commands)
     → Leads Commands b (map command_line commands) Commands (record b { commands = b.commands ++ commands })
-commands_lead side b [] all = subst (λ (l : List Command). Leads Commands b [] Commands (record b { commands = l })) (sym (append-nil b.commands)) (leads_nowhere Commands b)
-commands_lead side b (command ∷ commands) all =
+commands_lead laws side b [] all = subst (λ (l : List Command). Leads Commands b [] Commands (record b { commands = l })) (sym (append-nil b.commands)) (leads_nowhere Commands b)
+commands_lead laws side b (command ∷ commands) all =
     let joined = both_lead side Commands b (command_line command ∷ []) (map command_line commands) Commands Commands (record b { commands = b.commands ++ command ∷ [] })
-    (record b { commands = (b.commands ++ command ∷ []) ++ commands }) (command_leads side b command) (commands_lead side (record b { commands = b.commands ++ command ∷ [] }) commands) all in
+    (record b { commands = (b.commands ++ command ∷ []) ++ commands }) (command_leads laws side b command) (commands_lead laws side (record b { commands = b.commands ++ command ∷ [] }) commands) all in
     subst (λ (l : List Command). Leads Commands b (command_line command ∷ map command_line commands) Commands (record b { commands = l })) (append_assoc b.commands (command ∷ []) commands) joined

@@ -20,8 +20,8 @@ use Rattle.np_script_grammar.specs.Rows.{command_line}
 use Rattle.np_script_grammar.specs.Scripts.{OfResource, copies, alone, place_after}
 use Rattle.np_script_grammar.specs.Order.{class_after}
 use Rattle.np_script_actions.specs.Commands.{command_of}
-use Rattle.np_script_actions.proofs.Tables.{without_groups}
-use Rattle.np_script_actions.proofs.CommandTables.{lines_say, were_lines}
+use Rattle.np_script_builder.proofs.RowLaws.{LinesSay}
+use Rattle.np_script_builder.proofs.FormFields.{without_groups}
 use Rattle.np_script_builder.specs.declared.state.Unfinished.TheVariants.{OfClass, OfHandler, OfTask}
 use Rattle.np_script_builder.specs.declared.state.Building.{Building}
 use Rattle.np_script_builder.specs.Building.{at_start, built_after}
@@ -158,13 +158,13 @@ top_step side in_class b lines word fields said is = by_rows (Goes side Top in_c
 
 -- ---- behind `do`
 
-pub command_step : (side : Side) (in_class : List (List ℕ)) (b : Building) (lines : List Line) (word : List ℕ) (fields : List Field) → SaysCommands side b lines → IsOf command_table (word, fields)
+pub command_step : LinesSay → (side : Side) (in_class : List (List ℕ)) (b : Building) (lines : List Line) (word : List ℕ) (fields : List Field) → SaysCommands side b lines → IsOf command_table (word, fields)
     → Goes side Commands in_class b lines word fields
 unfolding built_after
-command_step side in_class b lines word fields said is =
-    let says = lines_say (word, fields) is in
+command_step laws side in_class b lines word fields said is =
+    let says = laws.say_commands (word, fields) is in
     let command : Command = says.0 in
-    let was : command_line command ≡ (word, fields) = were_lines word fields command says.1 in
+    let was : command_line command ≡ (word, fields) = laws.were_commands word fields command says.1 in
     let given : command_of word fields ≡ Some command = says.1 in
     record {
       next = record b { commands = b.commands ++ command ∷ [] };

@@ -2,4 +2,4 @@ use Rattle.np_script_builder.proofs.Forward.{lines_in_order_are_built}
 use Rattle.np_script_builder.proofs.laws.lines_in_order_are_built.Goals as goal
 
 pub returns : goal.returns
-returns c = record { law = lines_in_order_are_built }
+returns c = record { law = lines_in_order_are_built (record { say_actions = c.lines_say_actions.ensures.law; were_actions = c.actions_were_lines.ensures.law; say_commands = c.lines_say_commands.ensures.law; were_commands = c.commands_were_lines.ensures.law }) }
