@@ -1,19 +1,18 @@
 -- What was carried by the time that an exchange was cut short.
 use Rattle.std.proofs.Common.{◌≡◌, ℕ, List, [], ◌++◌, take, ◌⊎◌, inl, inr, Option, Some, None, refl, sym, ap, ◌∙◌, append_assoc, append-nil, drop}
 use Rattle.std.proofs.lemmas.List.{take-append-drop}
-use Rattle.np_message.specs.Encoding.{encodings}
-use Rattle.np_model.specs.Side.{SideState}
-use Rattle.np_model.specs.Alone.{Role, ComesTo}
+use Rattle.np_model.specs.Alone.{Role}
 use Rattle.np_ports.specs.Peer.{Known, took, gave}
 use Rattle.np_endpoint.specs.End.{EndState, StandsFor}
 use Rattle.np_endpoint.specs.declared.halt.Halt.{Halt}
 use Rattle.np_end_stops.specs.PeerCauses.{TookPart, ReadCut}
 use Rattle.np_end_stops.specs.Causes.{BeginsWith}
-use Rattle.np_exchange.specs.Session.{Exchanged, Interrupted}
+use Rattle.np_exchange.specs.Session.{Exchanged, PrintsFirst, Interrupted}
 use Rattle.np_exchange.specs.Live.{Live, Ran, RanCut, Turned, TurnCut}
 use Rattle.np_exchange.proofs.PeerReads.{exchanged-read}
 use Rattle.np_exchange.proofs.EndRests.{comes-to, waits-at, all-taken}
 use Rattle.np_exchange.proofs.Exchanges.{going-ran, live-unsent, Listening}
+use Rattle.np_exchange.proofs.PrintOrder.{comes-further, prints-more, prints-read, live-prints}
 
 -- ---- an end in the midst of its exchange
 
@@ -39,7 +38,7 @@ live-interrupted role_of script old first now sink e l =
 
 -- the run of the end, or the printing of its journal
 pub run-cut : {S C : Type 0} (role_of : S → Role C) (known : Option Known) (taken0 taken1 : Option (List ℕ)) (e0 : EndState S C) → RanCut role_of taken0 taken1 e0 → TurnCut role_of known known taken0 taken1 e0
-run-cut role_of known taken0 taken1 e0 (inl same) script old now first sink k o g = (now, sink, k, same ∙ o, live-interrupted role_of script old first now sink e0 g.live)
+run-cut role_of known taken0 taken1 e0 (inl same) script old now first sink k o g = (now, sink, k, same ∙ o, g.before, live-interrupted role_of script old first now sink e0 g.live)
 run-cut role_of known taken0 taken1 e0 (inr (between, keeps, adds)) script old now first sink k o g =
     let l = g.live in
     let p = adds sink o in
@@ -48,6 +47,7 @@ run-cut role_of known taken0 taken1 e0 (inr (between, keeps, adds)) script old n
       sink ++ p.0,
       k,
       p.3,
+      prints-more (role_of script) old now first sink p.0 g.before,
       stands-interrupted role_of script old now first (sink ++ p.0) l.got l.sent l.taken l.printed p.0 p.1 between s l.exchanged (record { rest = between.outgoing; parts = ap (λ (x : List ℕ). x ++ between.outgoing) (sym g.whole) }) p.2 (ap (λ (x : List ℕ). x ++ p.0) l.sink_is ∙ append_assoc first l.printed p.0),
     )
 
@@ -56,11 +56,8 @@ pub send-cut : {S C : Type 0} (role_of : S → Role C) (known0 known1 : Option K
 send-cut role_of known0 known1 taken0 taken1 e0 e1 s ran part script old now first sink k o g =
     let r = going-ran role_of script old now first sink taken0 taken1 e0 e1 s o ran g in
     let p = part now k in
-    (took now p.0, r.sink, p.3, r.taken_is, live-interrupted role_of script old first (took now p.0) r.sink e1 (live-unsent role_of script old now first r.sink p.0 p.1 e1 e1 p.2 refl r.going))
-
--- with further bytes the side comes to the same place
-comes-further : {C : Type 0} (role : Role C) (got more : List ℕ) (p : SideState C) → ComesTo role got p → ComesTo role (got ++ more) p
-comes-further role got more p c = record { turns = c.turns; left = c.left ++ more; comes = c.comes; messages = c.messages; got_is = ap (λ (l : List ℕ). l ++ more) c.got_is ∙ append_assoc (encodings p.examined) c.left more }
+    let live = live-unsent role_of script old now first r.sink p.0 p.1 e1 e1 p.2 refl r.going in
+    (took now p.0, r.sink, p.3, r.taken_is, live-prints role_of script old first (took now p.0) r.sink e1 live r.quiet, live-interrupted role_of script old first (took now p.0) r.sink e1 live)
 
 -- the peer gave bytes that the end didn't get
 read-interrupted : {S C : Type 0} (role_of : S → Role C) (script : S) (old : Known) (first : List ℕ) (known : Option Known) (taken : Option (List ℕ)) (e : EndState S C) (l : Listening role_of script old first known taken e) (n : ℕ) (buf : List ℕ) → take n buf ≡ take n l.now.left → Interrupted (role_of script) old first (gave l.now n buf) l.sink
@@ -79,12 +76,12 @@ read-interrupted role_of script old first known taken e l n buf same =
       printed = v.sink_is;
     }
 
-pub read-cut : {S C : Type 0} (role_of : S → Role C) (known1 known2 : Option Known) (taken : Option (List ℕ)) (e : EndState S C) (script : S) (old : Known) (first : List ℕ) → ReadCut known1 known2 → Listening role_of script old first known1 taken e → (next : Known) × (more : List ℕ) × (known2 ≡ Some next) × (taken ≡ Some more) × Interrupted (role_of script) old first next more
+pub read-cut : {S C : Type 0} (role_of : S → Role C) (known1 known2 : Option Known) (taken : Option (List ℕ)) (e : EndState S C) (script : S) (old : Known) (first : List ℕ) → ReadCut known1 known2 → Listening role_of script old first known1 taken e → (next : Known) × (more : List ℕ) × (known2 ≡ Some next) × (taken ≡ Some more) × PrintsFirst (role_of script) old first next more × Interrupted (role_of script) old first next more
 read-cut role_of known1 known2 taken e script old first cut l = at (cut l.now l.known_is)
   where
-    at : (known2 ≡ Some l.now) ⊎ ((n : ℕ) × (buf : List ℕ) × (known2 ≡ Some (gave l.now n buf)) × (take n buf ≡ take n l.now.left)) → (next : Known) × (more : List ℕ) × (known2 ≡ Some next) × (taken ≡ Some more) × Interrupted (role_of script) old first next more
-    at (inl same) = (l.now, l.sink, same, l.taken_is, live-interrupted role_of script old first l.now l.sink e l.going.live)
-    at (inr (n, buf, is, same)) = (gave l.now n buf, l.sink, is, l.taken_is, read-interrupted role_of script old first known1 taken e l n buf same)
+    at : (known2 ≡ Some l.now) ⊎ ((n : ℕ) × (buf : List ℕ) × (known2 ≡ Some (gave l.now n buf)) × (take n buf ≡ take n l.now.left)) → (next : Known) × (more : List ℕ) × (known2 ≡ Some next) × (taken ≡ Some more) × PrintsFirst (role_of script) old first next more × Interrupted (role_of script) old first next more
+    at (inl same) = (l.now, l.sink, same, l.taken_is, l.going.before, live-interrupted role_of script old first l.now l.sink e l.going.live)
+    at (inr (n, buf, is, same)) = (gave l.now n buf, l.sink, is, l.taken_is, prints-read (role_of script) old l.now (gave l.now n buf) first l.sink (take n buf) refl refl l.going.before, read-interrupted role_of script old first known1 taken e l n buf same)
 
 -- a turn that is cut short after others
 pub turned-cut : {S C : Type 0} (role_of : S → Role C) (known0 known1 known2 : Option Known) (taken0 taken1 taken2 : Option (List ℕ)) (e0 e1 : EndState S C) → Turned role_of known0 known1 taken0 taken1 e0 e1 None → TurnCut role_of known1 known2 taken1 taken2 e1 → TurnCut role_of known0 known2 taken0 taken2 e0

@@ -13,6 +13,7 @@ use Rattle.np_exchange.specs.Flow.{SentAll, SentPart, Sent}
 use Rattle.np_exchange.specs.Live.{Live, Going, AtEnding, After, Turned, HeardOn, Ran}
 use Rattle.np_exchange.proofs.PeerReads.{exchanged-took, exchanged-read}
 use Rattle.np_exchange.proofs.EndRests.{waits-at, all-taken}
+use Rattle.np_exchange.proofs.PrintOrder.{prints-more, prints-read, live-prints}
 
 -- ---- a run
 
@@ -51,6 +52,7 @@ going-ran {S} {C} role_of script old now first sink taken0 taken1 e0 e1 s told r
           sink_is = ap (λ (x : List ℕ). x ++ lines) l.sink_is ∙ append_assoc first l.printed lines;
         };
         whole = g.whole;
+        before = prints-more (role_of script) old now first sink lines g.before;
       };
       quiet = ap (λ (e : EndState S C). e.journal) r.printed.same;
       rests = rests-printed role_of r.between e1 s r.printed.same r.rests;
@@ -58,21 +60,23 @@ going-ran {S} {C} role_of script old now first sink taken0 taken1 e0 e1 s told r
 
 -- ---- messages that are sent
 
-pub going-sent : {S C : Type 0} (role_of : S → Role C) (script : S) (old now : Known) (first sink : List ℕ) (known0 known1 : Option Known) (e0 e1 : EndState S C) → SentAll role_of known0 known1 e0 e1 → Going role_of script old first now sink e0 → Going role_of script old first (took now e0.outgoing) sink e1
-going-sent role_of script old now first sink known0 known1 e0 e1 s g =
+pub going-sent : {S C : Type 0} (role_of : S → Role C) (script : S) (old now : Known) (first sink : List ℕ) (known0 known1 : Option Known) (e0 e1 : EndState S C) → SentAll role_of known0 known1 e0 e1 → Going role_of script old first now sink e0 → e1.journal ≡ [] → Going role_of script old first (took now e0.outgoing) sink e1
+going-sent {S} {C} role_of script old now first sink known0 known1 e0 e1 s g quiet =
     let l = g.live in
+    let live : Live role_of script old first (took now e0.outgoing) sink e1 = record {
+      got = l.got;
+      sent = l.sent ++ e0.outgoing;
+      taken = l.taken ++ e0.outgoing;
+      printed = l.printed;
+      stands = s.stands script l.got l.sent l.printed l.stands;
+      exchanged = exchanged-took (role_of script) old now l.got l.taken e0.outgoing l.exchanged;
+      taken_part = record { rest = e1.outgoing; parts = ap (λ (x : List ℕ). (x ++ e0.outgoing) ++ e1.outgoing) (sym g.whole) };
+      sink_is = l.sink_is;
+    } in
     record {
-      live = record {
-        got = l.got;
-        sent = l.sent ++ e0.outgoing;
-        taken = l.taken ++ e0.outgoing;
-        printed = l.printed;
-        stands = s.stands script l.got l.sent l.printed l.stands;
-        exchanged = exchanged-took (role_of script) old now l.got l.taken e0.outgoing l.exchanged;
-        taken_part = record { rest = e1.outgoing; parts = ap (λ (x : List ℕ). (x ++ e0.outgoing) ++ e1.outgoing) (sym g.whole) };
-        sink_is = l.sink_is;
-      };
+      live = live;
       whole = ap (λ (x : List ℕ). x ++ e0.outgoing) g.whole;
+      before = live-prints role_of script old first (took now e0.outgoing) sink e1 live quiet;
     }
 
 -- the peer failed after it took x
@@ -111,6 +115,7 @@ live-read role_of script old now next first sink bytes e0 e1 g nothing w given l
         sink_is = l.sink_is;
       };
       whole = g.whole;
+      before = prints-read (role_of script) old now next first sink bytes given taken g.before;
     }
 
 -- a read that gave nothing leaves the end as it was
@@ -155,7 +160,7 @@ after-sent {S} {C} role_of script old now first sink known0 known1 e f sent told
     record {
       now = took now e.outgoing;
       known_is = s.known now told;
-      going = going-sent role_of script old now first sink known0 known1 e f s g;
+      going = going-sent role_of script old now first sink known0 known1 e f s g (ap (λ (x : EndState S C). x.journal) s.same ∙ quiet);
       nothing = ap (λ (x : EndState S C). x.outgoing) s.same;
       quiet = ap (λ (x : EndState S C). x.journal) s.same ∙ quiet;
     }

@@ -1,5 +1,6 @@
 pub mod PeerReads
 pub mod EndRests
+pub mod PrintOrder
 pub mod Exchanges
 pub mod Cuts
 pub mod Sessions

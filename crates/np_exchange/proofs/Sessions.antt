@@ -15,6 +15,7 @@ use Rattle.np_exchange.specs.Session.{Outcome, Told, Completed}
 use Rattle.np_exchange.specs.Closing.{EndsWith, CutSession, Closed, ClosedPart, IsUnrefusedStatus}
 use Rattle.np_exchange.specs.Live.{Live, Going, AtEnding, Turned, Talked, TurnCut}
 use Rattle.np_exchange.proofs.EndRests.{waits-at, ends-at, refuses-at, total-is, all-taken}
+use Rattle.np_exchange.proofs.PrintOrder.{prints-nothing}
 
 -- ---- the exchange
 
@@ -36,6 +37,7 @@ starts-going role_of script e old first s = record {
     sink_is = sym (append-nil first);
   };
   whole = refl;
+  before = prints-nothing (role_of script) old first;
 }
 
 -- ---- outcomes
@@ -95,13 +97,13 @@ session-ends role_of outcome script known0 known1 taken0 taken1 taken2 e0 e1 end
 pub talk-cut : {S C : Type 0} (role_of : S → Role C) (outcome : S → Ending → Outcome) (pipe_failed peer_ended : Type 0) (script : S) (known0 known1 : Option Known) (taken0 taken1 : Option (List ℕ)) (e : EndState S C) → StandsFor role_of script [] [] [] e → TurnCut role_of known0 known1 taken0 taken1 e → Told (CutSession (role_of script) (outcome script) pipe_failed peer_ended) known0 known1 taken0 taken1
 talk-cut role_of outcome pipe_failed peer_ended script known0 known1 taken0 taken1 e s cut old first k o =
     let x = cut script old old first first k o (starts-going role_of script e old first s) in
-    (x.0, x.1, x.2, x.3, inl x.4)
+    (x.0, x.1, x.2, x.3, (x.4, inl x.5))
 
 pub close-cut : {S C : Type 0} (role_of : S → Role C) (outcome : S → Ending → Outcome) (pipe_failed peer_ended : Type 0) (script : S) (known0 known1 : Option Known) (taken0 taken1 taken2 : Option (List ℕ)) (e0 e1 : EndState S C) (ending : Ending) → StandsFor role_of script [] [] [] e0 → Talked role_of known0 known1 taken0 taken1 e0 e1 ending → HasReason pipe_failed peer_ended ending → ClosedPart role_of outcome taken1 taken2 e1 ending → Told (CutSession (role_of script) (outcome script) pipe_failed peer_ended) known0 known1 taken0 taken2
 close-cut role_of outcome pipe_failed peer_ended script known0 known1 taken0 taken1 taken2 e0 e1 ending s talked reason closed old first k o =
     let x = talked script old old first first k o (starts-going role_of script e0 old first s) in
     let y = closed script old x.0 first x.1 x.3 x.4 in
-    (x.0, y.0, x.2, y.1, inr (ending, reason, y.2))
+    (x.0, y.0, x.2, y.1, (y.2, inr (ending, reason, y.3)))
 
 run-status : (ending : Ending) → IsRunStatus (status_of ending)
 run-status Done = inl refl

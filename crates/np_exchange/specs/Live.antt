@@ -9,7 +9,7 @@ use Rattle.np_endpoint.specs.declared.halt.Halt.TheVariants.{Waiting, Finished, 
 use Rattle.np_end_stops.specs.declared.ending.Ending.{Ending}
 use Rattle.np_end_stops.specs.declared.ending.Ending.TheVariants as endings
 use Rattle.np_end_stops.specs.Causes.{Adds, AddsPart, BeginsWith}
-use Rattle.np_exchange.specs.Session.{Exchanged, Interrupted}
+use Rattle.np_exchange.specs.Session.{Exchanged, PrintsFirst, Interrupted}
 use Rattle.np_exchange.specs.Flow.{Printed, HeardBytes, HeardEnd, HeardFault}
 
 -- An exchange that began with old and first stands at now and sink: the peer took `taken` of the end's messages, of which `sent` was cut off.
@@ -23,10 +23,11 @@ pub record Live {S C : Type 0} (role_of : S → Role C) (script : S) (old : Know
   pub taken_part : BeginsWith (sent ++ e.outgoing) taken
   pub sink_is : sink ≡ first ++ printed
 
--- all that the peer took was cut off
+-- all that the peer took was cut off, and was made where all lines had been printed
 pub record Going {S C : Type 0} (role_of : S → Role C) (script : S) (old : Known) (first : List ℕ) (now : Known) (sink : List ℕ) (e : EndState S C) : Type 0 where
   pub live : Live role_of script old first now sink e
   pub whole : live.taken ≡ live.sent
+  pub before : PrintsFirst (role_of script) old first now sink
 
 -- how the end rests where its exchange comes to this ending
 abbrev pub Ends : {S C : Type 0} → (S → Role C) → List ℕ → List ℕ → EndState S C → Ending → Type 0
@@ -73,11 +74,11 @@ RefusesUncalled known0 known1 (Some (endings.Refused r)) = (known1 ≡ known0) �
 abbrev pub Talked : {S C : Type 0} → (S → Role C) → Option Known → Option Known → Option (List ℕ) → Option (List ℕ) → EndState S C → EndState S C → Ending → Type 0
 Talked role_of known0 known1 taken0 taken1 e0 e1 ending = Turned role_of known0 known1 taken0 taken1 e0 e1 (Some ending)
 
--- a turn, or several, were cut short
+-- a turn, or several, were cut short, and what was written by then was made where all lines had been printed
 abbrev pub TurnCut : {S C : Type 0} → (S → Role C) → Option Known → Option Known → Option (List ℕ) → Option (List ℕ) → EndState S C → Type 0
 TurnCut {S} role_of known0 known1 taken0 taken1 e0 =
     (script : S) (old now : Known) (first sink : List ℕ) → known0 ≡ Some now → taken0 ≡ Some sink → Going role_of script old first now sink e0 →
-    (next : Known) × (more : List ℕ) × (known1 ≡ Some next) × (taken1 ≡ Some more) × Interrupted (role_of script) old first next more
+    (next : Known) × (more : List ℕ) × (known1 ≡ Some next) × (taken1 ≡ Some more) × PrintsFirst (role_of script) old first next more × Interrupted (role_of script) old first next more
 
 -- the end was run, and its journal was printed
 pub record Ran {S C : Type 0} (role_of : S → Role C) (taken0 taken1 : Option (List ℕ)) (old new : EndState S C) (halt : Halt) : Type 0 where

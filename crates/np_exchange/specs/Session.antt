@@ -45,6 +45,17 @@ pub record Completed {C : Type 0} (role : Role C) (old : Known) (first : List �
   pub sent_is : sent ≡ encodings side.sent
   pub printed : sink ≡ first ++ (side.journal ++ end_line 0)
 
+-- Whatever was written to the peer was made at a place whose lines had all been printed by then: the side comes to `place` with the bytes that the peer gave, the peer took a part of the messages of that place, and the sink took its whole journal, and perhaps more.
+pub record PrintsFirst {C : Type 0} (role : Role C) (old : Known) (first : List ℕ) (new : Known) (sink : List ℕ) : Type 0 where
+  pub got : List ℕ
+  pub sent : List ℕ
+  pub place : SideState C
+  pub given : new.given ≡ old.given ++ got
+  pub taken : new.taken ≡ old.taken ++ sent
+  pub comes_to : ComesTo role got place
+  pub made_there : BeginsWith (encodings place.sent) sent
+  pub printed : BeginsWith sink (first ++ place.journal)
+
 -- Statuses 8 and 10 in the midst of the exchange: the side came to `side`; by then the peer took a part of its messages, and the sink a part of its journal.
 pub record Interrupted {C : Type 0} (role : Role C) (old : Known) (first : List ℕ) (new : Known) (sink : List ℕ) : Type 0 where
   pub got : List ℕ

@@ -1,4 +1,4 @@
-use Rattle.std.proofs.Common.{◌≡◌, Option, Some, None, Ok, subst, ◌∙◌, arith}
+use Rattle.std.proofs.Common.{◌≡◌, Option, Some, None, Ok, subst, ◌∙◌}
 use Rattle.np_end_stops.specs.declared.ending.Ending.{Ending}
 use Rattle.np_exchange.specs.Live.{Turned, counted_turn, ended_turn}
 use Rattle.np_exchange.proofs.Sessions.{turned-then}
