@@ -1,5 +1,5 @@
 -- A side over a peer and a sink that tell their calls: what a whole session of it did. (This project's own.)
-use Rattle.std.specs.Prelude.{◌≡◌, ℕ, ◌-◌, ◌≤◌, List, ◌++◌, length, take, Option, Some}
+use Rattle.std.specs.Prelude.{◌≡◌, ℕ, ◌+◌, ◌-◌, ◌≤◌, List, ◌++◌, length, take, Option, Some}
 use Rattle.std.specs.List.{AllByRecursion}
 use Rattle.np_message.specs.Encoding.{encodings}
 use Rattle.np_model.specs.Side.{SideState}
@@ -25,6 +25,10 @@ pub record Exchanged {C : Type 0} (role : Role C) (old new : Known) (got sent : 
   pub starts : new.starts ≡ old.starts
   pub reads_are : new.reads ≡ old.reads ++ reads
   pub each : AllByRecursion (ReadsWell role old got sent) reads
+
+-- a peer that records its traffic gave at most this many bytes
+abbrev pub GaveAtMost : ℕ → Option Known → Option Known → Type 0
+GaveAtMost limit known0 known1 = (old : Known) → known0 ≡ Some old → (new : Known) × (known1 ≡ Some new) × (length new.given ≤ length old.given + limit)
 
 -- an outcome of a session, of what the peer and the sink tell before and after it
 abbrev pub Outcome : Type 1

@@ -1,9 +1,10 @@
 //! The exchange of an end with its peer, turn by turn.
 
-ghost use Rattle.std.specs.Prelude.{◌≡◌, ◌≤◌, OnOk, OnErr, IfOk, ◌⊎◌};
+ghost use Rattle.std.specs.Prelude.{◌≡◌, ◌≤◌, ◌^◌, OnOk, OnErr, IfOk, ◌⊎◌};
 ghost use Rattle.np_endpoint.specs.End.{total_of};
 ghost use Rattle.np_end_stops.specs.Causes.{SinkCause, counted_output};
 ghost use Rattle.np_end_stops.specs.PeerCauses.{TalkCause, TalkEnded};
+ghost use Rattle.np_exchange.specs.Session.{GaveAtMost};
 ghost use Rattle.np_exchange.specs.Live.{Talked, TurnCut, counted_talk, ended_talk};
 ghost use Rattle.np_end_stops.specs.Status.{status_of, PIPE_FAILED, PEER_LOST};
 
@@ -22,6 +23,7 @@ pub fn talk<E: Endpoint, P: Peer, O: Sink>(
     requires total { total_of (E.seen end.old) ≡ 0 }
     ensures cut { OnErr result (TurnCut E.role_of (P.known peer.old) (P.known peer.new) (O.taken out.old) (O.taken out.new) (E.seen end.old)) }
     ensures talked { IfOk result (λ ending. Talked E.role_of (P.known peer.old) (P.known peer.new) (O.taken out.old) (O.taken out.new) (E.seen end.old) (E.seen end.new) ending) }
+    ensures read_limit { GaveAtMost (2 ^ 40) (P.known peer.old) (P.known peer.new) }
     ensures peer { TalkCause (P.pipe_faults peer.old) (P.pipe_faults peer.new) result }
     ensures pipe_count { P.pipe_faults peer.new ≡ counted_talk (P.pipe_faults peer.old) result }
     ensures ended { TalkEnded (P.has_ended peer.new) result }

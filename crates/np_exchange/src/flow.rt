@@ -5,6 +5,7 @@ ghost use Rattle.np_ports.specs.Causes.{HasCause};
 ghost use Rattle.np_endpoint.specs.End.{total_of};
 ghost use Rattle.np_end_stops.specs.Causes.{SinkCause, counted_output, Adds, AddsPart};
 ghost use Rattle.np_end_stops.specs.PeerCauses.{TookPart, ReadCut, PeerCause, ReadCause, EndedBy, AtMost};
+ghost use Rattle.np_exchange.specs.Session.{GaveAtMost};
 ghost use Rattle.np_exchange.specs.Flow.{Printed, Sent, Hears, counted_sent, counted_read, ended_read};
 
 use np_end_stops::{Heard, Stop};
@@ -58,6 +59,7 @@ pub fn listen<E: Endpoint, P: Peer>(
     ensures bound { IfOk result (λ heard. AtMost heard (length buf.old)) }
     ensures heard { IfOk result (λ heard. Hears E.role_of (P.known peer.old) (P.known peer.new) (E.seen end.old) (E.seen end.new) heard) }
     ensures cut { OnErr result (ReadCut (P.known peer.old) (P.known peer.new)) }
+    ensures cut_limit { OnErr result (GaveAtMost (length buf.old) (P.known peer.old) (P.known peer.new)) }
     ensures cause { ReadCause (P.pipe_faults peer.old) (P.pipe_faults peer.new) result }
     ensures count { P.pipe_faults peer.new ≡ counted_read (P.pipe_faults peer.old) result }
     ensures ended { EndedBy (P.has_ended peer.new) result }

@@ -1,9 +1,10 @@
 //! One turn of the exchange between an end and its environment.
 
-ghost use Rattle.std.specs.Prelude.{◌≡◌, ◌+◌, ◌≤◌, ◌<◌, ◌^◌, length, OnOk, OnErr, IfOk};
+ghost use Rattle.std.specs.Prelude.{◌≡◌, ◌+◌, ◌-◌, ◌≤◌, ◌<◌, ◌^◌, length, OnOk, OnErr, IfOk};
 ghost use Rattle.np_endpoint.specs.End.{total_of};
 ghost use Rattle.np_end_stops.specs.Causes.{SinkCause, counted_output};
 ghost use Rattle.np_end_stops.specs.PeerCauses.{ReadCut, GoesOnOnly, IsMemoryOnly, EndingCause, EndedOnly};
+ghost use Rattle.np_exchange.specs.Session.{GaveAtMost};
 ghost use Rattle.np_exchange.specs.Live.{Ran, RanCut, Turned, TurnCut, HeardOn, RefusesUncalled, counted_turn, ended_turn};
 
 use crate::flow::{listen, print_journal, send_messages};
@@ -39,6 +40,8 @@ pub fn turn<E: Endpoint, P: Peer, O: Sink>(
     requires limit { total.old ≤ 2 ^ 40 }
     ensures cut { OnErr result (TurnCut E.role_of (P.known peer.old) (P.known peer.new) (O.taken out.old) (O.taken out.new) (E.seen end.old)) }
     ensures turned { IfOk result (λ ending. Turned E.role_of (P.known peer.old) (P.known peer.new) (O.taken out.old) (O.taken out.new) (E.seen end.old) (E.seen end.new) ending) }
+    ensures gave { OnOk result (GaveAtMost (total.new - total.old) (P.known peer.old) (P.known peer.new)) }
+    ensures cut_limit { OnErr result (GaveAtMost (2 ^ 40 - total.old) (P.known peer.old) (P.known peer.new)) }
     ensures uncalled { IfOk result (λ ending. RefusesUncalled (P.known peer.old) (P.known peer.new) ending) }
     ensures total { OnOk result (total_of (E.seen end.new) ≡ total.new) }
     ensures limit { OnOk result (total.new ≤ 2 ^ 40) }
@@ -80,6 +83,7 @@ fn hear<E: Endpoint, P: Peer>(
     requires total { total_of (E.seen end.old) ≡ total.old }
     requires limit { total.old < 2 ^ 40 }
     ensures cut { OnErr result (ReadCut (P.known peer.old) (P.known peer.new)) }
+    ensures cut_limit { OnErr result (GaveAtMost (2 ^ 40 - total.old) (P.known peer.old) (P.known peer.new)) }
     ensures heard { IfOk result (λ ending. HeardOn E.role_of (P.known peer.old) (P.known peer.new) (E.seen end.old) (E.seen end.new) ending) }
     ensures total { OnOk result (total_of (E.seen end.new) ≡ total.new) }
     ensures limit { OnOk result (total.new ≤ 2 ^ 40) }
