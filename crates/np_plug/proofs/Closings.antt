@@ -13,6 +13,7 @@ use Rattle.np_end_lines.specs.Endings.{ending_line}
 use Rattle.np_exchange.specs.Live.{AtEnding}
 use Rattle.np_exchange.specs.Closing.{Closed, ClosedPart}
 use Rattle.np_exchange.proofs.EndRests.{waits-at, ends-at, total-is, all-taken}
+use Rattle.np_exchange.proofs.PrintOrder.{ending-prints}
 use Rattle.np_exchange.proofs.Sessions.{printed-is, sent-part, refusal-is, completes, first-begins, more-begins}
 use Rattle.np_plug.specs.Outcomes.{OutcomeOf}
 
@@ -77,6 +78,7 @@ closed-part taken0 taken1 e ending adds plugin old now first sink o a =
     let p = adds sink o in (
       sink ++ p.0,
       p.3,
+      ending-prints plugin_role plugin old now first sink p.0 e ending a,
       record {
         whole = sink ++ ending_line ending;
         reached = outcome plugin old now first sink e ending a;

@@ -57,10 +57,10 @@ outcome-follows laws page plugin old first new sink given endings.Failed short o
 outcome-follows laws page plugin old first new sink given (endings.Refused r) short o w e t = absurd (never-refused laws.never laws.few page plugin old first new sink given short o w e t)
 
 cut-follows : RunLaws → (pipe_failed peer_ended : Type 0) (plugin : Plugin) (old : Known) (first : List ℕ) (new : Known) (sink : List ℕ) → CutShort pipe_failed peer_ended plugin old first new sink → ForEachPage PluginCut plugin old first new sink
-cut-follows laws pipe_failed peer_ended plugin old first new sink (inl c) page given scripted e t = inl (interrupted-follows laws page plugin old first new sink given c (laws.formed scripted.script page scripted.says).0 e t)
-cut-follows laws pipe_failed peer_ended plugin old first new sink (inr (ending, reason, c)) page given scripted e t =
+cut-follows laws pipe_failed peer_ended plugin old first new sink (before, inl c) page given scripted e t = (before, inl (interrupted-follows laws page plugin old first new sink given c (laws.formed scripted.script page scripted.says).0 e t))
+cut-follows laws pipe_failed peer_ended plugin old first new sink (before, inr (ending, reason, c)) page given scripted e t =
     let w = laws.formed scripted.script page scripted.says in
-    inr (c.whole, c.part, c.unfinished, c.first_stays, outcome-follows laws page plugin old first new c.whole given ending w.1 c.reached w.0 e t)
+    (before, inr (c.whole, c.part, c.unfinished, c.first_stays, outcome-follows laws page plugin old first new c.whole given ending w.1 c.reached w.0 e t))
 
 -- ---- of a run of the plug-in program
 

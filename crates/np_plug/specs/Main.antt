@@ -14,7 +14,9 @@ use Rattle.np_ports.specs.Files.{Contents}
 use Rattle.np_model_scripts.specs.Served.{SaysPage, SaysPlugin}
 use Rattle.np_model_wire_laws.specs.Prefix.{IsWhole}
 use Rattle.np_plug.specs.Plug.{script_word, OfScript}
+use Rattle.np_model.specs.Alone.{plugin_role}
 use Rattle.np_end_stops.specs.Causes.{BeginsWith}
+use Rattle.np_exchange.specs.Session.{PrintsFirst}
 
 -- Before this read the peer had taken all that the plug-in sends in the run that only the whole messages given by then reach.
 pub record ReadFollows (page : Page) (plugin : Plugin) (old : Known) (given taken : List ℕ) (r : ℕ × ℕ) : Type 0 where
@@ -80,12 +82,13 @@ pub record PluginInterrupted (page : Page) (plugin : Plugin) (old : Known) (firs
   pub taken_part : BeginsWith (encodings side.sent) taken
   pub exchange : FollowsExchange page plugin old new given taken
 
--- Statuses 8 and 10: so, or the sink took a part of the lines that it takes at 0, 5 or 6, and not all.
+-- Statuses 8 and 10: what was written to the peer was made where all lines had been printed; and it was cut short in the midst, or the sink took a part of the lines that it takes at 0, 5 or 6, and not all.
 abbrev pub PluginCut : Page → Plugin → Known → List ℕ → Known → List ℕ → List ℕ → Type 0
 PluginCut page plugin old first new sink given =
-    PluginInterrupted page plugin old first new sink given
+    PrintsFirst (plugin_role plugin) old first new sink
+    × (PluginInterrupted page plugin old first new sink given
     ⊎ ((whole : List ℕ) × (part : BeginsWith whole sink) × (0 < length part.rest) × BeginsWith sink first
-    × (PluginDone page plugin old first new whole given ⊎ (PluginLeft page plugin old first new whole given ⊎ PluginBroken page plugin old first new whole given)))
+    × (PluginDone page plugin old first new whole given ⊎ (PluginLeft page plugin old first new whole given ⊎ PluginBroken page plugin old first new whole given))))
 
 -- some script is served as this page
 pub record IsScripted (page : Page) : Type 0 where
