@@ -1,9 +1,10 @@
 //! The entry point of the plug-in program, over any environment.
 
-ghost use Rattle.std.specs.Prelude.{◌≡◌, ◌<◌, ◌⊎◌, ◌↔◌, ◌≢◌, length, map, string_bytes, IfOk, OnOk, OnErr, Some, None, true};
+ghost use Rattle.std.specs.Prelude.{◌≡◌, ◌<◌, ◌^◌, ◌⊎◌, ◌↔◌, ◌≢◌, length, map, string_bytes, IfOk, OnOk, OnErr, Some, None, true};
 ghost use Rattle.np_ports.specs.Causes.{Rose};
 ghost use Rattle.np_end_stops.specs.Causes.{SinkCause, counted_output};
 ghost use Rattle.np_plug.specs.Plug.{texts, script_word, RunsPlugin, RunCut, CutWords, RunsWords, UnrefusedWords, StopsEarly, RefusesPlugin, RefusesScript, OnlyRefused, OnlyRefusedScript, KeepsFiles, NotesScriptOnly, NotesWordsOnly, IsIdle, IsCutShort, IsEndStatus};
+ghost use Rattle.np_exchange.specs.Session.{GaveAtMost};
 ghost use Rattle.np_exchange.specs.Closing.{IsUnrefusedStatus};
 ghost use Rattle.np_plug.specs.Outcomes.{CutShort};
 ghost use Rattle.np_plug.specs.Main.{FollowsWords, ForEachPage, PluginDone, PluginLeft, PluginBroken, PluginRefused, PluginCut};
@@ -30,6 +31,7 @@ fn run<P: Peer, F: Files, O: Sink>(
 ) -> Result<u8, Stop>
     ensures runs { IfOk result (λ status. RunsPlugin name.now (F.contents files.old) (P.known peer.old) (P.known peer.new) (O.taken notes.old) (O.taken notes.new) status) }
     ensures cut { OnErr result (RunCut (CutShort (Rose (P.pipe_faults peer.old) (P.pipe_faults peer.new)) (P.has_ended peer.new ≡ true)) name.now (Rose (F.faults files.old) (F.faults files.new)) (F.contents files.old) (P.known peer.old) (P.known peer.new) (O.taken notes.old) (O.taken notes.new)) }
+    ensures read_limit { GaveAtMost (2 ^ 40) (P.known peer.old) (P.known peer.new) }
     ensures early { IfOk result (λ status. StopsEarly (P.known peer.old) (P.known peer.new) (O.taken notes.old) (O.taken notes.new) status) }
     ensures script { IfOk result (λ status. status ≡ BAD_SCRIPT → RefusesPlugin name.now (F.contents files.old) (O.taken notes.old) (O.taken notes.new)) }
     ensures script_only { IfOk result (λ status. OnlyRefused name.now (F.contents files.old) status) }
@@ -93,6 +95,9 @@ pub fn plug_main<P: Peer, F: Files, O: Sink>(
 
     // At 8 and 10: what the sink and the peer took by then.
     ensures cut { IsCutShort result → CutWords (CutShort (Rose (P.pipe_faults peer.old) (P.pipe_faults peer.new)) (P.has_ended peer.new ≡ true)) (texts words.now) (Rose (F.faults files.old) (F.faults files.new)) (F.contents files.old) (P.known peer.old) (P.known peer.new) (O.taken notes.old) (O.taken notes.new) }
+
+    // Of a peer that records its traffic at most 2^40 bytes were read, at every status.
+    ensures read_limit { GaveAtMost (2 ^ 40) (P.known peer.old) (P.known peer.new) }
 
     // What comes before a plug-in runs.
     ensures early { StopsEarly (P.known peer.old) (P.known peer.new) (O.taken notes.old) (O.taken notes.new) result }

@@ -1,12 +1,12 @@
 //! A plug-in over a peer and a sink, from its start to the status of the run.
 
-ghost use Rattle.std.specs.Prelude.{◌≡◌, OnOk, OnErr, IfOk, true, ◌⊎◌};
+ghost use Rattle.std.specs.Prelude.{◌≡◌, ◌^◌, OnOk, OnErr, IfOk, true, ◌⊎◌};
 ghost use Rattle.np_ports.specs.Causes.{Rose};
 ghost use Rattle.np_end_stops.specs.Causes.{Adds, AddsPart, SinkCause, counted_output};
 ghost use Rattle.np_end_stops.specs.PeerCauses.{SessionCause, SessionEnded};
 ghost use Rattle.np_end_stops.specs.Status.{status_of, IsRunStatus, PIPE_FAILED, PEER_LOST};
 ghost use Rattle.np_end_lines.specs.Endings.{ending_line};
-ghost use Rattle.np_exchange.specs.Session.{Told};
+ghost use Rattle.np_exchange.specs.Session.{Told, GaveAtMost};
 ghost use Rattle.np_exchange.specs.Closing.{EndsWith};
 ghost use Rattle.np_plug.specs.Outcomes.{OutcomeOf, CutShort};
 
@@ -42,6 +42,7 @@ pub fn session<P: Peer, O: Sink>(
 ) -> Result<u8, Stop>
     ensures cut { OnErr result (Told (CutShort (Rose (P.pipe_faults peer.old) (P.pipe_faults peer.new)) (P.has_ended peer.new ≡ true) plugin) (P.known peer.old) (P.known peer.new) (O.taken notes.old) (O.taken notes.new)) }
     ensures outcome { IfOk result (λ status. EndsWith (OutcomeOf plugin) (P.known peer.old) (P.known peer.new) (O.taken notes.old) (O.taken notes.new) status) }
+    ensures read_limit { GaveAtMost (2 ^ 40) (P.known peer.old) (P.known peer.new) }
     ensures status { IfOk result (λ status. IsRunStatus status) }
     ensures peer { SessionCause (P.pipe_faults peer.old) (P.pipe_faults peer.new) result }
     ensures ended { SessionEnded (P.has_ended peer.new) result }

@@ -8,6 +8,7 @@ use Rattle.np_plug.proofs.Scripts.{only-plugin, refused-file, runs, ran-not}
 use Rattle.np_plug.proofs.ScriptCuts.{nothing-cut, early-cut, due-file, due-script, plugin-cut}
 use Rattle.np_end_stops.proofs.Stops.{if-then, ok-then, on-stop, failed-cause}
 use Rattle.np_end_lines.proofs.EarlyLines.{early-line}
+use Rattle.np_exchange.proofs.Limits.{gave-nothing}
 use Rattle.np_plug.proofs.plug.run.Goals as goal
 
 abbrev refusal : Unserved → Result Plugin Unserved
@@ -64,3 +65,18 @@ pub returns-in-Err-Unbuilt-clause-cut : goal.returns-in-Err-Unbuilt-clause-cut
 returns-in-Err-Unbuilt-clause-cut g c =
     on_err_weaker c.finish_unbuilt.result (λ adds. early-cut _ c.args.name.now _ (g.F.Files.contents c.args.files.now) (g.P.Peer.known c.args.peer.now) (g.O.Sink.taken c.args.notes.now) (g.O.Sink.taken c.finish_unbuilt.new.out) unbuilt_line
     (due-script c.args.name.now _ (g.F.Files.contents c.args.files.now) _ c.in-Ok.bytes.items c.deref.result.now Unbuilt c.in-Ok.ensures.contents c.deref.ensures.value (c.serve_plugin.ensures.unbuilt (c.in-Err-Unbuilt.is ∙ ap refusal c.in-Err-Unbuilt.field-0-is))) adds) c.finish_unbuilt.ensures.part
+
+pub returns-in-Err-NoMemory-clause-read_limit : goal.returns-in-Err-NoMemory-clause-read_limit
+returns-in-Err-NoMemory-clause-read_limit g c = gave-nothing _ _
+
+pub returns-in-Err-Failed-clause-read_limit : goal.returns-in-Err-Failed-clause-read_limit
+returns-in-Err-Failed-clause-read_limit g c = gave-nothing _ _
+
+pub returns-in-Err-NoMemory-serve_plugin-clause-read_limit : goal.returns-in-Err-NoMemory-serve_plugin-clause-read_limit
+returns-in-Err-NoMemory-serve_plugin-clause-read_limit g c = gave-nothing _ _
+
+pub returns-in-Err-Script-clause-read_limit : goal.returns-in-Err-Script-clause-read_limit
+returns-in-Err-Script-clause-read_limit g c = gave-nothing _ _
+
+pub returns-in-Err-Unbuilt-clause-read_limit : goal.returns-in-Err-Unbuilt-clause-read_limit
+returns-in-Err-Unbuilt-clause-read_limit g c = gave-nothing _ _

@@ -1,6 +1,7 @@
 use Rattle.np_model.specs.Alone.{plugin_role}
 use Rattle.np_end_stops.proofs.Reasons.{ending-reason}
 use Rattle.np_end_stops.proofs.Stops.{on-stop}
+use Rattle.np_exchange.proofs.Limits.{gave-nothing}
 use Rattle.np_exchange.proofs.Sessions.{session-ends, talk-cut, close-cut, is-run-status}
 use Rattle.np_plug.specs.Outcomes.{OutcomeOf}
 use Rattle.np_plug.proofs.Closings.{closed, closed-part}
@@ -17,3 +18,6 @@ returns-in_err-ending-clause-cut g c = on-stop c.from_residual-in_err-ending.res
 
 pub returns-in_err-status-clause-cut : goal.returns-in_err-status-clause-cut
 returns-in_err-status-clause-cut g c = on-stop c.from_residual-in_err-status.result _ (close-cut plugin_role OutcomeOf _ _ c.args.plugin _ _ _ _ _ c.in_ok-end.end c.talk.new.end c.in_ok-ending.ending c.in_ok-end.ensures.stands c.in_ok-ending.ensures.talked (ending-reason _ _ _ c.in_ok-ending.ending c.in_ok-ending.ensures.peer.failed c.in_ok-ending.ensures.ended) (closed-part _ _ c.talk.new.end c.in_ok-ending.ending c.in_err-status.ensures.part))
+
+pub returns-in_err-end-clause-read_limit : goal.returns-in_err-end-clause-read_limit
+returns-in_err-end-clause-read_limit g c = gave-nothing _ _
