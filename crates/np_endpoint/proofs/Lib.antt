@@ -1,2 +1,3 @@
 pub mod Turns
 pub mod Stands
+pub mod Memory

@@ -84,11 +84,11 @@ stands-acted {S} {C} role_of script got sent printed old new steps acts m consum
 
 -- ---- a message
 
-messages-more : (messages : List Message) (m : Message) → AreMessages messages → KeepsFormat m → IsTyped m → AreMessages (messages ++ m ∷ [])
+pub messages-more : (messages : List Message) (m : Message) → AreMessages messages → KeepsFormat m → IsTyped m → AreMessages (messages ++ m ∷ [])
 messages-more [] m h keeps typed = ((keeps, typed), tt)
 messages-more (x ∷ messages) m h keeps typed = (h.0, messages-more messages m h.1 keeps typed)
 
-encodings-more : (messages : List Message) (m : Message) → encodings (messages ++ m ∷ []) ≡ encodings messages ++ encoding m
+pub encodings-more : (messages : List Message) (m : Message) → encodings (messages ++ m ∷ []) ≡ encodings messages ++ encoding m
 encodings-more messages m = encodings-append messages (m ∷ []) ∙ ap (λ (l : List ℕ). encodings messages ++ l) (append-nil (encoding m))
 
 positive : (m : Message) → 1 ≤ length (encoding m)

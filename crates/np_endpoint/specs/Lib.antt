@@ -1,4 +1,5 @@
 pub mod End
+pub mod Memory
 pub mod Unknown
 pub use Rattle.np_message.specs.Encoding
 pub use Rattle.np_message.specs.Rules
@@ -7,3 +8,5 @@ pub use Rattle.np_model.specs.Side
 pub use Rattle.np_model.specs.Run
 pub use Rattle.np_model.specs.Alone
 pub use Rattle.np_model.specs.Releases
+pub use Rattle.np_model.specs.Steps
+pub use Rattle.np_wire_decode.specs.Reading

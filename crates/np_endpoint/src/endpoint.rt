@@ -1,8 +1,9 @@
 //! An end, as the exchange with the other program sees it.
 
-ghost use Rattle.std.specs.Prelude.{◌≡◌, ◌+◌, ◌≤◌, ◌^◌, ◌++◌, List, ℕ, length, take, drop, OnOk, IfOk};
+ghost use Rattle.std.specs.Prelude.{◌≡◌, ◌+◌, ◌≤◌, ◌^◌, ◌++◌, List, ℕ, length, take, drop, OnOk, OnErr, IfOk};
 ghost use Rattle.np_model.specs.Alone.{Role};
 ghost use Rattle.np_endpoint.specs.End.{EndState, StandsFor, Keeps, RestsAs, total_of};
+ghost use Rattle.np_endpoint.specs.Memory.{RunsOut};
 
 use crate::Halt;
 use np_values::NoMemory;
@@ -54,9 +55,11 @@ pub trait Endpoint {
         ensures same { OnOk result (seen self.new ≡ record (seen self.old) { unread = (seen self.old).unread ++ bytes.now }) };
 
     /// Continues until it waits for a message that isn't whole yet, has ended, or refuses a message. An `Err`
-    /// is out of memory.
+    /// is out of memory, which comes in place of none of these: it comes only where memory had run out
+    /// before, or where something that takes memory was due.
     fn run(&mut self) -> Result<Halt, NoMemory>
         ensures keeps { OnOk result (Keeps role_of (seen self.old) (seen self.new)) }
         ensures rests { IfOk result (λ halt. RestsAs role_of (seen self.new) halt) }
-        ensures total { OnOk result (total_of (seen self.new) ≡ total_of (seen self.old)) };
+        ensures total { OnOk result (total_of (seen self.new) ≡ total_of (seen self.old)) }
+        ensures memory { OnErr result (RunsOut role_of (seen self.old) (seen self.new)) };
 }

@@ -41,7 +41,7 @@ keeps-same e = record { stands = λ page got sent printed s. s; lost = λ page p
 
 -- ---- the pace of a page
 
-awaits : (page : Page) (c : PageControl) → IsAwaiting c.stage → HasPace (page_role page) c Awaits
+pub awaits : (page : Page) (c : PageControl) → IsAwaiting c.stage → HasPace (page_role page) c Awaits
 awaits page c a p same = subst (λ (d : PageControl). pace_at d.stage ≡ Awaits) (sym same) (page-awaits c.stage a)
 
 pub has-ended : (page : Page) (c : PageControl) → c.stage ≡ Ended → HasPace (page_role page) c HasEnded
@@ -69,16 +69,16 @@ acted-keeps old new a m feed = record {
   lost = λ page p sent printed s. lost-acted page p sent printed _ _ a (moves-end old new _ m) s;
 }
 
-awaiting : (old : Core) (call : Outstanding) → old.stage ≡ Awaiting call → IsAwaiting old.stage
+pub awaiting : (old : Core) (call : Outstanding) → old.stage ≡ Awaiting call → IsAwaiting old.stage
 awaiting old call e = subst IsAwaiting (sym e) tt
 
 -- what an accepted message does
-record Accepted (old new : Core) (m : Message) : Type 0 where
-  steps : List (Micro PageControl)
-  plan : meet_plan (control_of old) m ≡ Accepts steps
-  moves : Moves old new steps
+pub record Accepted (old new : Core) (m : Message) : Type 0 where
+  pub steps : List (Micro PageControl)
+  pub plan : meet_plan (control_of old) m ≡ Accepts steps
+  pub moves : Moves old new steps
 
-accepted : (old new : Core) (l : Listens old new) → Accepted old new l.message
+pub accepted : (old new : Core) (l : Listens old new) → Accepted old new l.message
 accepted old new l = at (meet_plan (control_of old) l.message) refl l.meets
   where
     at : (x : Meeting PageControl) → meet_plan (control_of old) l.message ≡ x → MovesAs old new x → Accepted old new l.message

@@ -2,4 +2,5 @@ pub mod CommandsLeft
 pub mod CoreRuns
 pub mod LostEnds
 pub mod Measures
+pub mod Memory
 pub mod PageTurns

@@ -23,7 +23,7 @@ use Rattle.np_endpoint.proofs.Stands.{ActsBy}
 use Rattle.np_host_end.specs.Core.{IsActing}
 use Rattle.np_model.proofs.StepLemmas.{run-control}
 
-acts-at : (s : Stage) → IsActing s → pace_at s ≡ Acts
+pub acts-at : (s : Stage) → IsActing s → pace_at s ≡ Acts
 acts-at Begin a = refl
 acts-at Ready a = refl
 acts-at (Awaiting call) a = absurd a

@@ -1,5 +1,5 @@
 -- What the private calls of a host end do.
-use Rattle.std.specs.Prelude.{◌≡◌, ◌+◌, List, ◌++◌, length, drop, Option, Some, None}
+use Rattle.std.specs.Prelude.{◌≡◌, ◌+◌, List, ◌++◌, length, drop, true, ◌⊎◌, Option, Some, None}
 use Rattle.np_model.specs.declared.page.Stage.{Stage}
 use Rattle.np_model.specs.declared.page.Stage.TheVariants.{Begin, Ready, Awaiting, Unanswered, Ended}
 use Rattle.np_message.specs.Message.{Message}
@@ -7,11 +7,13 @@ use Rattle.np_model.specs.declared.refusal.Refusal.{Refusal}
 use Rattle.np_message.specs.Encoding.{encoding, encodings}
 use Rattle.np_message.specs.Rules.{KeepsFormat, IsTyped}
 use Rattle.np_message.specs.Decoding.{Partial, front}
+use Rattle.np_wire_decode.specs.Reading.{needs_memory}
 use Rattle.np_model.specs.Side.{Micro}
 use Rattle.np_model.specs.Run.{Meeting, Accepts, Refuses}
 use Rattle.np_model.specs.PagePlan.{PageControl, go_plan, meet_plan}
 use Rattle.np_model.specs.Steps.{control_after, sent_by, printed_by}
 use Rattle.np_model.specs.Refused.{RefusedBy}
+use Rattle.np_endpoint.specs.Memory.{MakeSomething}
 use Rattle.np_endpoint.specs.declared.fault.Fault.{Fault}
 use Rattle.np_endpoint.specs.declared.halt.Halt.{Halt}
 use Rattle.np_endpoint.specs.declared.halt.Halt.TheVariants.{Waiting, Finished, Refused}
@@ -91,3 +93,38 @@ Listened old new None = Listens old new
 Listened old new (Some Waiting) = Waits old new
 Listened old new (Some Finished) = ⊥
 Listened old new (Some (Refused r)) = IsRefused old new r
+
+-- ---- out of memory
+
+-- the page was to make something by itself; its control stayed
+pub record RanOutActing (old new : Core) : Type 0 where
+  pub control : control_of new ≡ control_of old
+  pub makes : MakeSomething (go_plan old.page (control_of old) old.stage)
+
+-- a message is accepted, and something is made of it
+abbrev pub AcceptsToMake : Meeting PageControl → Type 0
+AcceptsToMake (Accepts steps) = MakeSomething steps
+AcceptsToMake (Refuses rule first second) = ⊥
+
+-- the page was to make something of a message; its control stayed
+pub record RanOutMeeting (old new : Core) (meeting : Meeting PageControl) : Type 0 where
+  pub control : control_of new ≡ control_of old
+  pub makes : AcceptsToMake meeting
+
+-- the next message was to be read, which takes memory
+pub record RanOutReading (old new : Core) : Type 0 where
+  pub control : control_of new ≡ control_of old
+  pub feed : new.feed ≡ old.feed
+  pub needs : needs_memory (drop 4 old.feed.left) ≡ true
+
+-- the next message was taken off, and something was to be made of it
+pub record RanOutOfNext (old new : Core) : Type 0 where
+  pub message : Message
+  pub bytes : old.feed.left ≡ encoding message ++ new.feed.left
+  pub keeps : KeepsFormat message
+  pub typed : IsTyped message
+  pub meeting : RanOutMeeting old new (meet_plan (control_of old) message)
+
+-- a page that awaits a message ran out of memory
+abbrev pub RanOutListening : Core → Core → Type 0
+RanOutListening old new = RanOutReading old new ⊎ RanOutOfNext old new

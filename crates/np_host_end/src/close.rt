@@ -1,9 +1,9 @@
 //! The end of the page: its closing calls, and the loss of the plug-in.
 
-ghost use Rattle.std.specs.Prelude.{◌≡◌, ◌≤◌, ◌<◌, ◌+◌, ◌-◌, length, OnOk, position, slice_set, map};
+ghost use Rattle.std.specs.Prelude.{◌≡◌, ◌≤◌, ◌<◌, ◌+◌, ◌-◌, length, OnOk, OnErr, position, slice_set, map};
 ghost use Rattle.np_model.specs.PagePlan.{is_live as lives, with_phase, peer_lost, unanswered as unanswered_stage};
 ghost use Rattle.np_model.specs.declared.page.Phase.TheVariants.{Dead};
-ghost use Rattle.np_host_end.specs.Core.{control_of, GoesOn, SameBut};
+ghost use Rattle.np_host_end.specs.Core.{control_of, GoesOn, SameBut, RanOutActing};
 
 use crate::calls::push_call;
 use crate::host_core::Core;
@@ -50,6 +50,7 @@ impl Core {
         requires stage { self.old.stage ≡ Ready }
         requires done { self.old.next ≡ length self.old.page.commands }
         ensures moves { OnOk result (GoesOn self.old self.new) }
+        ensures memory { OnErr result (RanOutActing self.old self.new) }
         ensures feed { self.new.feed ≡ self.old.feed }
     {
         if let PeerState::Lost = self.peer {

@@ -1,6 +1,6 @@
 //! What the page does by itself: its commands, one after another.
 
-ghost use Rattle.std.specs.Prelude.{◌≡◌, ◌<◌, ◌+◌, length, OnOk};
+ghost use Rattle.std.specs.Prelude.{◌≡◌, ◌<◌, ◌+◌, length, OnOk, OnErr};
 
 use crate::calls::push_call;
 use crate::host_core::Core;
@@ -11,12 +11,13 @@ use np_values::{NoMemory, NpError, Text, Texts};
 
 impl Core {
     ghost use Rattle.np_model.specs.declared.page.Stage.TheVariants.{Begin, Ready, Unanswered};
-    ghost use Rattle.np_host_end.specs.Core.{GoesOn, IsActing};
+    ghost use Rattle.np_host_end.specs.Core.{GoesOn, IsActing, RanOutActing};
 
     /// What the page does where it doesn't wait.
     pub fn act(&mut self) -> Result<(), NoMemory>
         requires acting { IsActing self.old.stage }
         ensures moves { OnOk result (GoesOn self.old self.new) }
+        ensures memory { OnErr result (RanOutActing self.old self.new) }
         ensures feed { self.new.feed ≡ self.old.feed }
     {
         match self.stage {
@@ -30,6 +31,7 @@ impl Core {
     fn greet(&mut self) -> Result<(), NoMemory>
         requires stage { self.old.stage ≡ Begin }
         ensures moves { OnOk result (GoesOn self.old self.new) }
+        ensures memory { OnErr result (RanOutActing self.old self.new) }
         ensures feed { self.new.feed ≡ self.old.feed }
     {
         let page = &self.page;
@@ -49,6 +51,7 @@ impl Core {
     fn leave(&mut self, call: Outstanding) -> Result<(), NoMemory>
         requires stage { self.old.stage ≡ Unanswered call }
         ensures moves { OnOk result (GoesOn self.old self.new) }
+        ensures memory { OnErr result (RanOutActing self.old self.new) }
         ensures feed { self.new.feed ≡ self.old.feed }
     {
         match call {
@@ -72,6 +75,7 @@ impl Core {
     fn proceed(&mut self) -> Result<(), NoMemory>
         requires stage { self.old.stage ≡ Ready }
         ensures moves { OnOk result (GoesOn self.old self.new) }
+        ensures memory { OnErr result (RanOutActing self.old self.new) }
         ensures feed { self.new.feed ≡ self.old.feed }
     {
         if self.next == self.page.commands.as_slice().len() {
@@ -84,6 +88,7 @@ impl Core {
         requires stage { self.old.stage ≡ Ready }
         requires more { self.old.next < length self.old.page.commands }
         ensures moves { OnOk result (GoesOn self.old self.new) }
+        ensures memory { OnErr result (RanOutActing self.old self.new) }
         ensures feed { self.new.feed ≡ self.old.feed }
     {
         match &self.page.commands.as_slice()[self.next] {

@@ -49,6 +49,7 @@ impl HostEnd {
     ghost use Rattle.np_model.specs.Alone.{page_role};
     ghost use Rattle.np_endpoint.specs.declared.halt.Halt.TheVariants.{Waiting, Finished, Refused};
     ghost use Rattle.np_endpoint.specs.End.{StandsFor, Keeps, RestsAs, end_start, total_of};
+    ghost use Rattle.np_endpoint.specs.Memory.{RunsOut};
     ghost use Rattle.np_host_end.specs.HostEnd.{StandsLost, KeepsLost};
 
     /// The end of a page before anything was done. It owns the page, keeps the allocator, and takes no
@@ -160,6 +161,7 @@ impl HostEnd {
         ensures failed { OnOk result (self.new.failed ≡ false) }
         ensures err { OnErr result (self.new.failed ≡ true) }
         ensures state { OnErr result (self.new.state ≡ self.old.state) }
+        ensures memory { OnErr result (RunsOut page_role self.old self.new) }
 
         // Out of memory, a refusal and the end are answered again from then on, and nothing changes.
         ensures again { self.old.failed ≡ true → OnOk result ⊥ }

@@ -1,12 +1,13 @@
 //! What the page does with a message of the plug-in.
 
-ghost use Rattle.std.specs.Prelude.{◌≡◌, OnOk, IfOk};
+ghost use Rattle.std.specs.Prelude.{◌≡◌, OnOk, OnErr, IfOk};
 ghost use Rattle.np_model.specs.declared.page.Stage.TheVariants.{Awaiting};
 ghost use Rattle.np_message.specs.Encoding.{kind_of, depth_byte};
 ghost use Rattle.np_message.specs.Kinds.{instance_of};
 ghost use Rattle.np_model.specs.declared.refusal.Rule.TheVariants.{WrongKind, Unmatched};
 ghost use Rattle.np_host_end.specs.Answers.{answered};
-ghost use Rattle.np_host_end.specs.Core.{control_of, Meets, MovesAs};
+ghost use Rattle.np_model.specs.PagePlan.{meet_plan};
+ghost use Rattle.np_host_end.specs.Core.{control_of, Meets, MovesAs, RanOutMeeting};
 
 use crate::answer::{Answer, answer_to, may_answer};
 use crate::host_core::Core;
@@ -44,6 +45,7 @@ impl Core {
     pub fn meet(&mut self, call: Outstanding, message: &Message) -> Result<Option<Fault>, NoMemory>
         requires stage { self.old.stage ≡ Awaiting call }
         ensures meets { IfOk result (λ fault. Meets self.old self.new message.now fault) }
+        ensures memory { OnErr result (RanOutMeeting self.old self.new (meet_plan (control_of self.old) message.now)) }
         ensures feed { self.new.feed ≡ self.old.feed }
     {
         if !may_answer(message.body()) {
@@ -65,6 +67,7 @@ impl Core {
     /// What an answer to the open call does.
     fn take_answer(&mut self, answer: Answer) -> Result<(), NoMemory>
         ensures moves { OnOk result (MovesAs self.old self.new (answered (control_of self.old) answer)) }
+        ensures memory { OnErr result (RanOutMeeting self.old self.new (answered (control_of self.old) answer)) }
         ensures feed { self.new.feed ≡ self.old.feed }
     {
         match answer {

@@ -1,6 +1,6 @@
 //! The run of an end, from message to message.
 
-ghost use Rattle.std.specs.Prelude.{◌≡◌, OnOk, IfOk, false};
+ghost use Rattle.std.specs.Prelude.{◌≡◌, OnOk, OnErr, IfOk, false};
 ghost use Rattle.np_model.specs.declared.page.Stage.TheVariants.{Awaiting};
 
 use crate::host_core::Core;
@@ -14,7 +14,10 @@ impl Core {
     ghost use Rattle.np_model.specs.Alone.{page_role};
     ghost use Rattle.np_endpoint.specs.End.{Keeps, RestsAs, total_of};
     ghost use Rattle.np_host_end.specs.HostEnd.{KeepsLost, seen};
-    ghost use Rattle.np_host_end.specs.Core.{Listened};
+    ghost use Rattle.np_model.specs.Side.{SideState};
+    ghost use Rattle.np_model.specs.PagePlan.{PageControl};
+    ghost use Rattle.np_endpoint.specs.Memory.{RanOut};
+    ghost use Rattle.np_host_end.specs.Core.{control_of, Listened, RanOutListening};
     ghost use Rattle.np_endpoint.specs.declared.halt.Halt.TheVariants.{Waiting};
 
     /// Continues until the page waits or has ended, or refuses a message.
@@ -26,6 +29,8 @@ impl Core {
         ensures rests { IfOk result (λ state. RestsAs page_role (seen self.new state false) state) }
         ensures total { OnOk result (total_of (seen self.new Waiting false) ≡
             total_of (seen self.old Waiting false)) }
+        ensures memory { OnErr result ((p : SideState PageControl) → p.control ≡ control_of self.old →
+            RanOut (page_role self.old.page) p self.old.feed.left (control_of self.new) self.new.feed.left) }
     {
         more_messages_law();
         loop {
@@ -45,6 +50,7 @@ impl Core {
     fn listen(&mut self, call: Outstanding) -> Result<Option<Halt>, NoMemory>
         requires stage { self.old.stage ≡ Awaiting call }
         ensures listened { IfOk result (λ halt. Listened self.old self.new halt) }
+        ensures memory { OnErr result (RanOutListening self.old self.new) }
         ensures total { OnOk result (total_of (seen self.new Waiting false) ≡
             total_of (seen self.old Waiting false)) }
     {

@@ -26,7 +26,7 @@ listening-at s (inr e) = subst IsListening (sym e) tt
 
 -- ---- the pace of a plug-in
 
-awaits : (plugin : Plugin) (c : PluginControl) → IsListening c.stage → HasPace (plugin_role plugin) c Awaits
+pub awaits : (plugin : Plugin) (c : PluginControl) → IsListening c.stage → HasPace (plugin_role plugin) c Awaits
 awaits plugin c a p same = subst (λ (d : PluginControl). plugin_pace d.stage ≡ Awaits) (sym same) (plugin-awaits c.stage a)
 
 pub has-ended : (plugin : Plugin) (c : PluginControl) → c.stage ≡ Ended → HasPace (plugin_role plugin) c HasEnded

@@ -1,11 +1,11 @@
 -- What the private calls of a plug-in end do.
-use Rattle.std.specs.Prelude.{◌≡◌, ◌+◌, ℕ, List, ◌++◌, length, drop, true, ◌⊎◌, Option, Some, None}
+use Rattle.std.specs.Prelude.{◌≡◌, ◌+◌, List, ◌++◌, length, drop, true, ◌⊎◌, Option, Some, None}
 use Rattle.np_model.specs.declared.script.Plugin.{Plugin}
 use Rattle.np_message.specs.Message.{Message}
 use Rattle.np_model.specs.declared.refusal.Refusal.{Refusal}
 use Rattle.np_message.specs.Encoding.{encoding, encodings}
 use Rattle.np_message.specs.Rules.{KeepsFormat, IsTyped}
-use Rattle.np_message.specs.Decoding.{Partial, Whole, front}
+use Rattle.np_message.specs.Decoding.{Partial, front}
 use Rattle.np_wire_decode.specs.Reading.{needs_memory}
 use Rattle.np_model.specs.Side.{Micro}
 use Rattle.np_model.specs.Run.{Accepts, Refuses}
@@ -63,16 +63,24 @@ pub record IsRefused (old new : Core) (r : Refusal) : Type 0 where
   pub plugin : new.plugin ≡ old.plugin
   pub refused : RefusedBy (plugin_meet old.plugin (control_of old)) old.feed.consumed r (front old.feed.consumed old.feed.left)
 
--- a whole message stands at the front, and may come
-pub record IsServed (e : Core) : Type 0 where
-  pub message : Message
-  pub rest : List ℕ
-  pub there : front e.feed.consumed e.feed.left ≡ Whole message rest
-  pub plan : plugin_meet e.plugin (control_of e) message ≡ Accepts (serve_plan e.plugin (control_of e) message)
+-- the next message was to be read, which takes memory
+pub record RanOutReading (old new : Core) : Type 0 where
+  pub control : control_of new ≡ control_of old
+  pub feed : new.feed ≡ old.feed
+  pub needs : needs_memory (drop 4 old.feed.left) ≡ true
 
--- Out of memory comes in place of no refusal: it comes where the message at the front is served, or begins as one with texts, values, lists or releases.
-abbrev pub WantsMemory : Core → Type 0
-WantsMemory e = (needs_memory (drop 4 e.feed.left) ≡ true) ⊎ IsServed e
+-- the next message was taken off, and was to be served; the control stayed
+pub record RanOutServing (old new : Core) : Type 0 where
+  pub message : Message
+  pub bytes : old.feed.left ≡ encoding message ++ new.feed.left
+  pub keeps : KeepsFormat message
+  pub typed : IsTyped message
+  pub plan : plugin_meet old.plugin (control_of old) message ≡ Accepts (serve_plan old.plugin (control_of old) message)
+  pub control : control_of new ≡ control_of old
+
+-- a plug-in that awaits a message ran out of memory
+abbrev pub RanOutListening : Core → Core → Type 0
+RanOutListening old new = RanOutReading old new ⊎ RanOutServing old new
 
 -- an end that awaits a message went on with it, or halted
 abbrev pub Listened : Core → Core → Option Halt → Type 0

@@ -11,4 +11,6 @@ pub use Rattle.np_model.specs.Alone
 pub use Rattle.np_model.specs.Steps
 pub use Rattle.np_model.specs.Refused
 pub use Rattle.np_endpoint.specs.End
+pub use Rattle.np_endpoint.specs.Memory
+pub use Rattle.np_wire_decode.specs.Reading
 pub use Rattle.np_model.specs.Releases

@@ -44,6 +44,7 @@ impl PlugEnd {
     ghost use Rattle.np_model.specs.declared.refusal.Refusal.{Refusal};
     ghost use Rattle.np_endpoint.specs.declared.halt.Halt.TheVariants.{Waiting, Finished, Refused};
     ghost use Rattle.np_endpoint.specs.End.{StandsFor, Keeps, RestsAs, end_start, total_of};
+    ghost use Rattle.np_endpoint.specs.Memory.{RunsOut};
 
     /// The end of a plug-in before anything was done. It takes no memory yet.
     pub fn new(alloc: Global, plugin: Plugin) -> Result<PlugEnd, NoMemory>
@@ -139,6 +140,7 @@ impl PlugEnd {
         ensures failed { OnOk result (self.new.failed ≡ false) }
         ensures err { OnErr result (self.new.failed ≡ true) }
         ensures state { OnErr result (self.new.state ≡ self.old.state) }
+        ensures memory { OnErr result (RunsOut plugin_role self.old self.new) }
 
         // Out of memory, a refusal and the end are answered again from then on, and nothing changes.
         ensures again { self.old.failed ≡ true → OnOk result ⊥ }

@@ -12,9 +12,12 @@ use np_wire::FeedError;
 
 impl Core {
     ghost use Rattle.np_model.specs.Alone.{plugin_role};
+    ghost use Rattle.np_model.specs.Side.{SideState};
+    ghost use Rattle.np_model.specs.PluginPlan.{PluginControl};
+    ghost use Rattle.np_endpoint.specs.Memory.{RanOut};
     ghost use Rattle.np_endpoint.specs.End.{Keeps, RestsAs, total_of};
     ghost use Rattle.np_plug_end.specs.PlugEnd.{seen};
-    ghost use Rattle.np_plug_end.specs.Core.{Listened, WantsMemory};
+    ghost use Rattle.np_plug_end.specs.Core.{control_of, Listened, RanOutListening};
     ghost use Rattle.np_endpoint.specs.declared.halt.Halt.TheVariants.{Waiting};
 
     /// Serves what has come whole, until it waits or was shut down, or refuses a message.
@@ -24,6 +27,8 @@ impl Core {
         ensures rests { IfOk result (λ state. RestsAs plugin_role (seen self.new state false) state) }
         ensures total { OnOk result (total_of (seen self.new Waiting false) ≡
             total_of (seen self.old Waiting false)) }
+        ensures memory { OnErr result ((p : SideState PluginControl) → p.control ≡ control_of self.old →
+            RanOut (plugin_role self.old.plugin) p self.old.feed.left (control_of self.new) self.new.feed.left) }
     {
         plugin_more_messages_law();
         loop {
@@ -42,7 +47,7 @@ impl Core {
     fn listen(&mut self) -> Result<Option<Halt>, NoMemory>
         requires listens { IsListening self.old.stage }
         ensures listened { IfOk result (λ halt. Listened self.old self.new halt) }
-        ensures memory { OnErr result (WantsMemory self.old) }
+        ensures memory { OnErr result (RanOutListening self.old self.new) }
         ensures total { OnOk result (total_of (seen self.new Waiting false) ≡
             total_of (seen self.old Waiting false)) }
     {

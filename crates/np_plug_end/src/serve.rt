@@ -1,6 +1,6 @@
 //! How the plug-in serves a call.
 
-ghost use Rattle.std.specs.Prelude.{◌≡◌, ◌++◌, ◌<◌, OnOk};
+ghost use Rattle.std.specs.Prelude.{◌≡◌, ◌++◌, ◌<◌, OnOk, OnErr};
 ghost use Rattle.np_model.specs.PluginPlan.{control_after_call, lines_of_call, serve_plan};
 
 use crate::lines::push_new;
@@ -19,20 +19,22 @@ impl Core {
     pub fn serve(&mut self, message: &Message) -> Result<(), NoMemory>
         ensures moves { OnOk result (Moves self.old self.new
             (serve_plan self.old.plugin (control_of self.old) message.now)) }
+        ensures memory { OnErr result (control_of self.new ≡ control_of self.old) }
         ensures feed { self.new.feed ≡ self.old.feed }
     {
         let call = message.body();
-        self.advance(call)?;
         self.print(call)?;
         let reply = reply(self.plugin, call);
-        let message = Message::new(message.depth(), Releases::new(self.alloc), reply);
-        encode(&message, &mut self.outgoing)
+        let answer = Message::new(message.depth(), Releases::new(self.alloc), reply);
+        encode(&answer, &mut self.outgoing)?;
+        self.advance(call)
     }
 
-    // The control after a call.
+    // The control after a call. It comes last, so that the control stays where memory runs out.
     fn advance(&mut self, call: &Payload) -> Result<(), NoMemory>
         ensures control { OnOk result (control_of self.new ≡
             control_after_call self.old.plugin (control_of self.old) call.now) }
+        ensures memory { OnErr result (control_of self.new ≡ control_of self.old) }
         ensures same { SameBut self.old self.new }
     {
         match call {
