@@ -205,7 +205,7 @@ there_at x (e ∷ es) (suc i) r t low high =
 
 -- ---- what the code's edits leave
 
-hit-on : (x : Name) (xs es : List LiveObject) (i : ℕ) → xs ≡ es → IsAt x xs i → IsAt x es i
+pub hit-on : (x : Name) (xs es : List LiveObject) (i : ℕ) → xs ≡ es → IsAt x xs i → IsAt x es i
 hit-on x xs es i e h = subst (λ l. IsAt x l i) e h
 
 at-hit : (x : Name) (xs es : List LiveObject) (i : ℕ) (e : LiveObject) → xs ≡ es → IsAt x xs i → e ≡ get_or es i e → e.name ≡ x
@@ -282,7 +282,7 @@ pub gone-is : (x : Name) (es xs : List LiveObject) (i : ℕ) → is_rising es �
 gone-is x es xs i r q h d =
     let k = hit-on x xs es i q h in gone-there x es i d r k.within (k.is d)
 
-default : Name → LiveObject
+pub default : Name → LiveObject
 default x = record { name = x; class = 0; fields = []; holds = 0; pinned = false }
 
 pub hit-there-is : (x : Name) (es xs st : List LiveObject) (i : ℕ) → es ≡ st → is_rising es ≡ true → xs ≡ es → IsAt x xs i → is_there x st ≡ true

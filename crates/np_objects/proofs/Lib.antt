@@ -4,3 +4,4 @@ pub mod FieldLists
 pub mod Keeping
 pub mod Lookups
 pub mod Histories
+pub mod NamesBeside

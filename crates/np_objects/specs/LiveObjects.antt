@@ -1,5 +1,5 @@
 -- The live objects of a side, in rising order of names. (npruntime.h, NPObject and its reference count; names are this project's own.)
-use Rattle.std.specs.Prelude.{◌≡◌, ◌↔◌, ℕ, ◌+◌, ◌-◌, ◌<◌, ◌==◌, ◌&&◌, not, List, [], ◌∷◌, length, get_or, Bool, true, false, if◌then◌else◌, Option, Some, None, is_some}
+use Rattle.std.specs.Prelude.{◌≡◌, ◌↔◌, ℕ, ◌+◌, ◌-◌, ◌<◌, ◌==◌, ◌&&◌, not, List, [], ◌∷◌, length, map, get_or, Bool, true, false, if◌then◌else◌, Option, Some, None, is_some}
 use Rattle.np_values.specs.declared.name.Name.{Name}
 use Rattle.np_values.specs.Name.{is_before, is_same_side}
 use Rattle.np_values.specs.declared.value.Value.{Value}
@@ -14,6 +14,9 @@ is_same a b = is_same_side a.side b.side && (a.instance == b.instance && a.seria
 abbrev pub SameNamesAreEqual : Type 0
 SameNamesAreEqual = (a b : Name) → (is_same a b ≡ true) ↔ (a ≡ b)
 
+abbrev pub object_name : LiveObject → Name
+object_name o = o.name
+
 abbrev pub are_after : Name → List LiveObject → Bool
 are_after x [] = true
 are_after x (o ∷ os) = is_before x o.name && are_after x os
@@ -22,6 +25,11 @@ are_after x (o ∷ os) = is_before x o.name && are_after x os
 abbrev pub is_rising : List LiveObject → Bool
 is_rising [] = true
 is_rising (o ∷ os) = are_after o.name os && is_rising os
+
+-- the names of rising objects, by themselves
+pub record AreNamed (names : List Name) (os : List LiveObject) : Type 0 where
+  pub rising : is_rising os ≡ true
+  pub same : names ≡ map object_name os
 
 -- the object of this name, if it lives
 abbrev pub object_at : Name → List LiveObject → Option LiveObject

@@ -1,5 +1,6 @@
 ghost use Rattle.std.specs.Prelude.{◌≡◌, ◌≢◌, ◌<◌, ◌≤◌, ◌+◌, ◌^◌, ◌==◌, ◌&&◌, not, [], length, Some, true, false, IfOk, OnOk, OnErr};
 ghost use Rattle.std.specs.Option.{option_copied};
+ghost use Rattle.std.specs.List.{insert};
 ghost use Rattle.std.specs.List.Sorted.{IsPartitionPoint};
 ghost use Rattle.np_values.specs.Name.{is_before};
 ghost use Rattle.np_objects.specs.Fields.{field_at, is_new_for, set_outcome, fields_set, without_field};
@@ -7,60 +8,30 @@ ghost use Rattle.np_objects.specs.LiveObjects.{is_rising, is_there, object_at, h
 
 use crate::{FieldSet, Fields, LiveObject};
 use np_idents::IdKey;
+use np_name_search::count_before;
 use np_values::{Name, NameList, NoMemory, Value};
 use std::alloc::Global;
 use std::marker::Model;
 
-// The live objects in rising order of names. Each look-up is a binary search.
+// The live objects in rising order of names. Each look-up is a search by halves; the names stand by themselves too, so that
+// it reads little memory.
 #[derive(Drop)]
 pub struct LiveObjects {
+    names: Vec<Name>,
     objects: Vec<LiveObject>,
 }
 
 impl Model for LiveObjects {
-    ghost use Rattle.std.specs.Prelude.{List, ◌≡◌, true};
+    ghost use Rattle.std.specs.Prelude.{List};
     ghost use Rattle.np_objects.specs.declared.object.LiveObject.{LiveObject};
 
     ghost Value = { List LiveObject };
 
-    ghost use Rattle.np_objects.specs.LiveObjects.{is_rising};
+    ghost use Rattle.np_objects.specs.LiveObjects.{AreNamed};
 
     ghost view = { λ s. s.objects.items };
 
-    ghost invariant = { λ s. is_rising s.objects.items ≡ true };
-}
-
-// How many names stand before this one.
-fn count_before(objects: &[LiveObject], name: Name) -> usize
-    requires rising { is_rising objects.now ≡ true }
-    ensures within { result ≤ length objects.now }
-    ensures parts { IsPartitionPoint (λ o. is_before o.name name ≡ true) (λ o. is_before o.name name ≡ false) objects.now result }
-{
-    objects.partition_point(|object| object.name.before(name))
-}
-
-// The place of a live object.
-fn place_of(objects: &[LiveObject], name: Name) -> usize
-    requires rising { is_rising objects.now ≡ true }
-    requires live { is_there name objects.now ≡ true }
-    ensures at { IsAt name objects.now result }
-{
-    count_before(objects, name)
-}
-
-// The place of the object of this name, if it lives.
-fn find(objects: &[LiveObject], name: Name) -> Option<usize>
-    requires rising { is_rising objects.now ≡ true }
-    ensures found { Finds name objects.now result }
-{
-    let place = count_before(objects, name);
-    if place == objects.len() {
-        return None;
-    }
-    if name.before(objects[place].name) {
-        return None;
-    }
-    Some(place)
+    ghost invariant = { λ s. AreNamed s.names.items s.objects.items };
 }
 
 fn is_free(holds: u64, pinned: bool) -> bool
@@ -69,11 +40,35 @@ fn is_free(holds: u64, pinned: bool) -> bool
     (holds == 0) & !pinned
 }
 
+// Puts an object at a place, and its name beside it; or neither.
+fn put_beside(
+    names: &mut Vec<Name>,
+    objects: &mut Vec<LiveObject>,
+    place: usize,
+    object: LiveObject,
+) -> Result<(), NoMemory>
+    requires names { place ≤ length names.old.items }
+    requires objects { place ≤ length objects.old.items }
+    ensures names { OnOk result (names.new.items ≡ insert names.old.items place object.name) }
+    ensures objects { OnOk result (objects.new.items ≡ insert objects.old.items place object) }
+    ensures same_names { OnErr result (names.new.items ≡ names.old.items) }
+    ensures same_objects { OnErr result (objects.new.items ≡ objects.old.items) }
+{
+    names.insert(place, object.name)?;
+    match objects.insert(place, object) {
+        Ok(()) => return Ok(()),
+        Err(_) => {}
+    }
+    names.remove(place);
+    Err(NoMemory)
+}
+
 impl LiveObjects {
     pub fn new(alloc: Global) -> LiveObjects
         ensures value { result ≡ [] }
     {
         LiveObjects {
+            names: Vec::new(alloc),
             objects: Vec::new(alloc),
         }
     }
@@ -84,6 +79,37 @@ impl LiveObjects {
         self.objects.len()
     }
 
+    // How many names stand before this one.
+    fn count_before(&self, name: Name) -> usize
+        ensures within { result ≤ length self.now }
+        ensures rising { is_rising self.now ≡ true }
+        ensures parts { IsPartitionPoint (λ o. is_before o.name name ≡ true) (λ o. is_before o.name name ≡ false) self.now result }
+    {
+        count_before(self.names.as_slice(), name)
+    }
+
+    // The place of a live object.
+    fn place_of(&self, name: Name) -> usize
+        requires live { is_there name self.now ≡ true }
+        ensures at { IsAt name self.now result }
+    {
+        self.count_before(name)
+    }
+
+    // The place of the object of this name, if it lives.
+    fn find(&self, name: Name) -> Option<usize>
+        ensures found { Finds name self.now result }
+    {
+        let place = self.count_before(name);
+        if place == self.objects.len() {
+            return None;
+        }
+        if name.before(self.objects[place].name) {
+            return None;
+        }
+        Some(place)
+    }
+
     // A new object at its place, with no holds, no pin and no fields.
     pub fn insert(&mut self, name: Name, class: u32) -> Result<(), NoMemory>
         requires absent { is_there name self.old ≡ false }
@@ -91,7 +117,7 @@ impl LiveObjects {
         ensures object { OnOk result (object_at name self.new ≡ Some (fresh name class)) }
         ensures err { OnErr result (self.new ≡ self.old) }
     {
-        let place = count_before(self.objects.as_slice(), name);
+        let place = self.count_before(name);
         let alloc = *self.objects.allocator();
         let object = LiveObject {
             name,
@@ -100,7 +126,7 @@ impl LiveObjects {
             holds: 0,
             pinned: false,
         };
-        self.objects.insert(place, object)?;
+        put_beside(&mut self.names, &mut self.objects, place, object)?;
         Ok(())
     }
 
@@ -109,7 +135,7 @@ impl LiveObjects {
         requires room { holds_of (object_at name self.old) + 1 < 2 ^ 64 }
         ensures value { self.new ≡ at_name name raised self.old }
     {
-        let place = place_of(self.objects.as_slice(), name);
+        let place = self.place_of(name);
         let object = &mut self.objects[place];
         object.holds += 1;
     }
@@ -119,7 +145,7 @@ impl LiveObjects {
         ensures value { self.new ≡ at_name name lowered self.old }
         ensures free { result ≡ is_free_of (object_at name self.new) }
     {
-        let place = place_of(self.objects.as_slice(), name);
+        let place = self.place_of(name);
         let object = &mut self.objects[place];
         object.holds -= 1;
         is_free(object.holds, object.pinned)
@@ -129,7 +155,7 @@ impl LiveObjects {
         requires live { is_there name self.old ≡ true }
         ensures value { self.new ≡ at_name name (pin_set true) self.old }
     {
-        let place = place_of(self.objects.as_slice(), name);
+        let place = self.place_of(name);
         let object = &mut self.objects[place];
         object.pinned = true;
     }
@@ -139,7 +165,7 @@ impl LiveObjects {
         ensures value { self.new ≡ at_name name (pin_set false) self.old }
         ensures free { result ≡ is_free_of (object_at name self.new) }
     {
-        let place = place_of(self.objects.as_slice(), name);
+        let place = self.place_of(name);
         let object = &mut self.objects[place];
         object.pinned = false;
         is_free(object.holds, false)
@@ -152,7 +178,7 @@ impl LiveObjects {
         ensures err { OnErr result (self.new ≡ self.old) }
         ensures memory { OnErr result (is_new_for key.now (fields_of (object_at name self.old)) ≡ true) }
     {
-        let place = place_of(self.objects.as_slice(), name);
+        let place = self.place_of(name);
         let object = &mut self.objects[place];
         object.fields.set(key, value)
     }
@@ -161,7 +187,7 @@ impl LiveObjects {
         ensures value { result ≡ field_at key.now (fields_of (object_at name self.old)) }
         ensures list { self.new ≡ at_name name (fields_changed (without_field key.now)) self.old }
     {
-        match find(self.objects.as_slice(), name) {
+        match self.find(name) {
             Some(place) => {
                 let object = &mut self.objects[place];
                 object.fields.remove(key)
@@ -173,7 +199,7 @@ impl LiveObjects {
     pub fn class_of(&self, name: Name) -> Option<u32>
         ensures value { result ≡ class_of (object_at name self.now) }
     {
-        match find(self.objects.as_slice(), name) {
+        match self.find(name) {
             Some(place) => Some(self.objects[place].class),
             None => None,
         }
@@ -182,7 +208,7 @@ impl LiveObjects {
     pub fn holds_of(&self, name: Name) -> u64
         ensures value { result ≡ holds_of (object_at name self.now) }
     {
-        match find(self.objects.as_slice(), name) {
+        match self.find(name) {
             Some(place) => self.objects[place].holds,
             None => 0,
         }
@@ -191,7 +217,7 @@ impl LiveObjects {
     pub fn field(&self, name: Name, key: &IdKey) -> Option<&Value>
         ensures value { option_copied result ≡ field_at key.now (fields_of (object_at name self.now)) }
     {
-        match find(self.objects.as_slice(), name) {
+        match self.find(name) {
             Some(place) => self.objects[place].fields.get(key),
             None => None,
         }
@@ -201,7 +227,7 @@ impl LiveObjects {
         requires live { is_there name self.now ≡ true }
         ensures value { result.now ≡ fields_of (object_at name self.now) }
     {
-        let place = place_of(self.objects.as_slice(), name);
+        let place = self.place_of(name);
         &self.objects[place].fields
     }
 
@@ -212,7 +238,8 @@ impl LiveObjects {
         ensures list { self.new ≡ without_object name self.old }
         ensures gone { is_there name self.new ≡ false }
     {
-        let place = place_of(self.objects.as_slice(), name);
+        let place = self.place_of(name);
+        self.names.remove(place);
         self.objects.remove(place).fields
     }
 

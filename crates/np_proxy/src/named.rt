@@ -7,16 +7,7 @@ ghost use Rattle.np_proxy.specs.Named.{is_rising, is_there, named_at, with_named
 
 use np_values::{Name, NoMemory};
 
-/// An entry of a name.
-pub trait Named {
-    ghost use Rattle.np_values.specs.declared.name.Name.{Name};
-
-    ghost name_of: { Self → Name };
-
-    /// Its name.
-    fn name(&self) -> Name
-        ensures value { result ≡ name_of self.now };
-}
+pub use np_name_search::Named;
 
 /// How many names stand before this one.
 pub fn place_of<T: Named>(entries: &[T], name: Name) -> usize
@@ -24,7 +15,7 @@ pub fn place_of<T: Named>(entries: &[T], name: Name) -> usize
     ensures within { result ≤ length entries.now }
     ensures parts { IsPartitionPoint (λ e. is_before (T.Named.name_of e) name ≡ true) (λ e. is_before (T.Named.name_of e) name ≡ false) entries.now result }
 {
-    entries.partition_point(|entry| entry.name().before(name))
+    np_name_search::count_before(entries, name)
 }
 
 /// The place of the entry of this name.

@@ -11,20 +11,6 @@ use np_values::{Name, Side};
 /// The most releases that a message carries. (This project's own.)
 const MOST_CARRIED: usize = 1024;
 
-impl Named for Release {
-    ghost use Rattle.np_proxy.specs.Imports.{release_name};
-
-    ghost name_of = { release_name };
-
-    fn name(&self) -> Name {
-        Name {
-            side: Side::Page,
-            instance: self.instance,
-            serial: self.serial,
-        }
-    }
-}
-
 /// How many references to the object are to be given back.
 pub fn pending_times(releases: &[Release], name: Name) -> u32
     requires rising { is_rising release_name releases.now ≡ true }

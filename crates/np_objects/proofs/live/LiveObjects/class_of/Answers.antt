@@ -4,4 +4,4 @@ use Rattle.np_objects.proofs.Finding.{hit-seen}
 use Rattle.np_objects.proofs.live.LiveObjects.class_of.Goals as goal
 
 pub returns-in-Some : goal.returns-in-Some
-returns-in-Some c = record { value = sym (ap class_of (hit-seen c.args.name c.self.inside.objects.items c.as_slice.result.now _ c.in-Some.place c.index.result.now c.self.view_is c.self.invariant c.as_slice.ensures.value c.in-Some.ensures.found c.index.ensures)) }
+returns-in-Some c = record { value = sym (ap class_of (hit-seen c.args.name c.self.inside.objects.items c.args.self.now _ c.in-Some.place c.index.result.now c.self.view_is c.self.invariant.rising (sym c.self.view_is) c.in-Some.ensures.found c.index.ensures)) }

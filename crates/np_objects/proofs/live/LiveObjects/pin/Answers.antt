@@ -1,11 +1,12 @@
-use Rattle.std.proofs.Common.{true, refl}
+use Rattle.std.proofs.Common.{sym, true, refl}
 use Rattle.np_objects.specs.LiveObjects.{pin_set}
-use Rattle.np_objects.proofs.Finding.{edit-view, edit-rising}
+use Rattle.np_objects.proofs.Finding.{edit-view}
+use Rattle.np_objects.proofs.NamesBeside.{edit-named}
 use Rattle.np_objects.proofs.live.LiveObjects.pin.Goals as goal
 
 pub invariant_of-self : goal.invariant_of-self
 invariant_of-self c =
-    edit-rising c.args.name c.self.inside.objects.items c.as_slice.result.now c.place_of-place.result c.index_mut-object.result.now _ c.self.invariant c.as_slice.ensures.value c.place_of-place.ensures.at c.index_mut-object.ensures.value refl
+    edit-named c.args.name c.self.inside.names.items c.self.inside.objects.items c.args.self.now c.place_of-place.result c.index_mut-object.result.now _ c.self.invariant (sym c.self.view_is) c.place_of-place.ensures.at c.index_mut-object.ensures.value refl
 
 pub returns : goal.returns
-returns c = record { value = edit-view c.args.name (pin_set true) c.self.inside.objects.items c.as_slice.result.now _ c.place_of-place.result c.index_mut-object.result.now _ c.self.view_is c.self.invariant c.as_slice.ensures.value c.place_of-place.ensures.at c.index_mut-object.ensures.value refl }
+returns c = record { value = edit-view c.args.name (pin_set true) c.self.inside.objects.items c.args.self.now _ c.place_of-place.result c.index_mut-object.result.now _ c.self.view_is c.self.invariant.rising (sym c.self.view_is) c.place_of-place.ensures.at c.index_mut-object.ensures.value refl }

@@ -1,23 +1,24 @@
 use Rattle.std.proofs.Common.{arith, sym, ap, ◌∙◌, refl}
 use Rattle.np_objects.specs.LiveObjects.{lowered, holds_of, is_free_of, object_at}
-use Rattle.np_objects.proofs.Finding.{edit-view, edit-rising, hit-seen, edited-at}
+use Rattle.np_objects.proofs.Finding.{edit-view, hit-seen, edited-at}
+use Rattle.np_objects.proofs.NamesBeside.{edit-named}
 use Rattle.np_objects.proofs.live.LiveObjects.unhold.Goals as goal
 
 pub overflow_sub-object : goal.overflow_sub-object
 overflow_sub-object c =
-    let seen = hit-seen c.args.name c.self.inside.objects.items c.as_slice.result.now _ c.place_of-place.result c.index_mut-object.result.now c.self.view_is c.self.invariant c.as_slice.ensures.value c.place_of-place.ensures.at c.index_mut-object.ensures.value in
+    let seen = hit-seen c.args.name c.self.inside.objects.items c.args.self.now _ c.place_of-place.result c.index_mut-object.result.now c.self.view_is c.self.invariant.rising (sym c.self.view_is) c.place_of-place.ensures.at c.index_mut-object.ensures.value in
     omega (arith, ap holds_of seen, c.requires.held)
 
 pub invariant_of-self : goal.invariant_of-self
 invariant_of-self c =
-    edit-rising c.args.name c.self.inside.objects.items c.as_slice.result.now c.place_of-place.result c.index_mut-object.result.now _ c.self.invariant c.as_slice.ensures.value c.place_of-place.ensures.at c.index_mut-object.ensures.value refl
+    edit-named c.args.name c.self.inside.names.items c.self.inside.objects.items c.args.self.now c.place_of-place.result c.index_mut-object.result.now _ c.self.invariant (sym c.self.view_is) c.place_of-place.ensures.at c.index_mut-object.ensures.value refl
 
 pub returns-clause-value : goal.returns-clause-value
 returns-clause-value c =
-    edit-view c.args.name lowered c.self.inside.objects.items c.as_slice.result.now _ c.place_of-place.result c.index_mut-object.result.now _ c.self.view_is c.self.invariant c.as_slice.ensures.value c.place_of-place.ensures.at c.index_mut-object.ensures.value refl
+    edit-view c.args.name lowered c.self.inside.objects.items c.args.self.now _ c.place_of-place.result c.index_mut-object.result.now _ c.self.view_is c.self.invariant.rising (sym c.self.view_is) c.place_of-place.ensures.at c.index_mut-object.ensures.value refl
 
 pub returns-clause-free : goal.returns-clause-free
 returns-clause-free c =
-    let seen = hit-seen c.args.name c.self.inside.objects.items c.as_slice.result.now _ c.place_of-place.result c.index_mut-object.result.now c.self.view_is c.self.invariant c.as_slice.ensures.value c.place_of-place.ensures.at c.index_mut-object.ensures.value in
-    let edit = edit-view c.args.name lowered c.self.inside.objects.items c.as_slice.result.now _ c.place_of-place.result c.index_mut-object.result.now (lowered c.index_mut-object.result.now) c.self.view_is c.self.invariant c.as_slice.ensures.value c.place_of-place.ensures.at c.index_mut-object.ensures.value refl in
+    let seen = hit-seen c.args.name c.self.inside.objects.items c.args.self.now _ c.place_of-place.result c.index_mut-object.result.now c.self.view_is c.self.invariant.rising (sym c.self.view_is) c.place_of-place.ensures.at c.index_mut-object.ensures.value in
+    let edit = edit-view c.args.name lowered c.self.inside.objects.items c.args.self.now _ c.place_of-place.result c.index_mut-object.result.now (lowered c.index_mut-object.result.now) c.self.view_is c.self.invariant.rising (sym c.self.view_is) c.place_of-place.ensures.at c.index_mut-object.ensures.value refl in
     c.is_free.ensures.value ∙ sym (ap (λ l. is_free_of (object_at c.args.name l)) edit ∙ ap is_free_of (edited-at c.args.name lowered _ _ (λ o. refl) seen))

@@ -1,5 +1,0 @@
-use Rattle.np_objects.proofs.Finding.{there_at}
-use Rattle.np_objects.proofs.live.place_of.Goals as goal
-
-pub returns : goal.returns
-returns c = record { at = there_at c.args.name c.args.objects.now c.count_before.result c.requires.rising c.requires.live c.count_before.ensures.parts.0 c.count_before.ensures.parts.1 }
