@@ -1,4 +1,5 @@
 pub mod FirstLine
+pub mod NoFields
 pub mod LineKinds
 pub mod WholeTexts
 pub mod OneValue

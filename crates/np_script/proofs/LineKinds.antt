@@ -104,7 +104,7 @@ line-of-words : LinesGoOn → BuiltGoesOn → (side : Side) (order : Standing) (
     → is_line next ≡ true → is_skipped (words_of next) ≡ false → ReadsWords side order building (words_of next) order1 building1 r → ReadsLine side order building next order1 building1 r
 line-of-words law built-law side order building next order1 building1 (Ok done) plain counts g = goes-on law built-law side order building next order1 building1 plain counts g
 line-of-words law built-law side order building next order1 building1 (Err (errors.Refused kind)) plain counts has = record { is_kind = kind-of side order next kind plain has; counts = λ p. counts }
-line-of-words law built-law side order building next order1 building1 (Err errors.NoMemory) plain counts has = tt
+line-of-words law built-law side order building next order1 building1 (Err errors.NoMemory) plain counts has = (plain, has)
 
 pub line-is-read : LinesGoOn → BuiltGoesOn → (side : Side) (order : Standing) (building : Building) (next word : List ℕ) (words : List (List ℕ)) (order1 : Standing) (building1 : Building) (r : Result (Unit {0}) LineError)
     → is_line next ≡ true → words_of next ≡ word ∷ words → 0 < length word → slice_index_or word 0 0 == 35 ≡ false → ReadsWords side order building (word ∷ words) order1 building1 r

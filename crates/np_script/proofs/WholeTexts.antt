@@ -9,7 +9,7 @@ use Rattle.np_script_grammar.specs.declared.refusal.ScriptKind.TheVariants as ki
 use Rattle.np_script_grammar.specs.declared.refusal.ScriptError.{ScriptError}
 use Rattle.np_script_grammar.specs.declared.place.Place.{Place}
 use Rattle.np_script_grammar.specs.declared.place.Place.TheVariants.{Head}
-use Rattle.np_script_grammar.specs.Words.{lines_of}
+use Rattle.np_script_grammar.specs.Words.{lines_of, words_of}
 use Rattle.np_script_grammar.specs.Forms.{Line}
 use Rattle.np_script_grammar.specs.Scripts.{place_behind, IsPageOf, IsPluginOf}
 use Rattle.np_script_grammar.specs.Order.{Standing, at_first, standing_after, MayFollow, AreInOrder}
@@ -23,10 +23,10 @@ use Rattle.np_script_builder.specs.Laws.{LinesInOrderAreBuilt, BuiltGoesOn, Buil
 use Rattle.np_script.specs.declared.read.LineError.{LineError}
 use Rattle.np_script.specs.declared.read.LineError.TheVariants as errors
 use Rattle.np_script.specs.declared.reader.Reader.{Reader}
-use Rattle.np_script.specs.Reading.{CanBuild, HasRead, Refuses, ReadsLine}
+use Rattle.np_script.specs.Reading.{CanBuild, HasRead, Refuses, ReadsLine, WordsTakeMemory, CanRunOut}
 use Rattle.np_script.specs.declared.error.ParseError.{ParseError}
 use Rattle.np_script.specs.declared.error.ParseError.TheVariants as parse_errors
-use Rattle.np_script.specs.Parsing.{IsFresh, HasReadAll, HasReadScript, ReadsScript}
+use Rattle.np_script.specs.Parsing.{IsFresh, HasReadAll, HasReadScript, ReadsAll, ReadsScript}
 use Rattle.np_script.proofs.LineKinds.{place-is}
 
 -- ---- what can be gone on with
@@ -114,6 +114,22 @@ line-refused laws complete end side bytes left line rest order building lines li
 pub refusal : (side : Side) (order order1 : Standing) (building building1 : Building) (line : List ℕ) (e : LineError) (kind : ScriptKind) → e ≡ errors.Refused kind → ReadsLine side order building line order1 building1 (Err e) → Refuses side order line kind
 refusal side order order1 building building1 line e kind is reads = subst (λ (x : LineError). ReadsLine side order building line order1 building1 (Err x)) is reads
 
+-- memory ran out at the line
+pub line-took : (side : Side) (bytes left line rest : List ℕ) (order order1 : Standing) (building building1 : Building) (lines : ℕ) (e : LineError) → e ≡ errors.NoMemory → ReadSoFar side bytes left order building lines
+    → lines_of left ≡ line ∷ lines_of rest → ReadsLine side order building line order1 building1 (Err e) → CanRunOut side (lines_of bytes)
+line-took side bytes left line rest order order1 building building1 lines e is so parts reads =
+    let ran = subst (λ (x : LineError). ReadsLine side order building line order1 building1 (Err x)) is reads in
+    record {
+      before = so.text;
+      line = line;
+      behind = lines_of rest;
+      lines = so.read.lines;
+      text_is = so.parts ∙ ap (λ t. so.text ++ t) parts;
+      so_far = so.read.are_lines;
+      plain = ran.0;
+      takes = subst (λ (s : Standing). WordsTakeMemory side s (words_of line)) so.read.standing ran.1;
+    }
+
 append-nothing : {A : Type 0} (xs : List A) → xs ++ [] ≡ xs
 append-nothing [] = refl
 append-nothing (x ∷ xs) = ap (λ t. x ∷ t) (append-nothing xs)
@@ -182,6 +198,10 @@ too-long side bytes long = inl (long, refl)
 pub line-error : (side : Side) (bytes : List ℕ) (e : ScriptError) → length bytes ≤ script_limit → IsRefusedLine side (lines_of bytes) e → FirstError side bytes e
 line-error side bytes e short refused = inr (short, inl refused)
 
+pub lines-failed : (side : Side) (bytes : List ℕ) (reader : Reader) (error : ParseError) → length bytes ≤ script_limit → ReadsAll side bytes reader (Err error) → ReadsScript side bytes reader (Err error)
+lines-failed side bytes reader (parse_errors.Script e) short refused = line-error side bytes e short refused
+lines-failed side bytes reader parse_errors.NoMemory short ran = (short, ran)
+
 abbrev pub failed : {A : Type 0} → ParseError → Result A ParseError
 failed error = Err error
 
@@ -190,3 +210,8 @@ pub only-error : {A : Type 0} → OneRefusal → (side : Side) (bytes : List ℕ
     → (failed {A = A} error ≡ failed (parse_errors.Script e)) ⊎ (failed {A = A} error ≡ failed parse_errors.NoMemory)
 only-error law side bytes reader (parse_errors.Script f) reads e first = inl (ap (λ (x : ScriptError). failed (parse_errors.Script x)) (law side bytes f e reads first))
 only-error law side bytes reader parse_errors.NoMemory reads e first = inr refl
+
+pub ran-out : {A : Type 0} (side : Side) (bytes : List ℕ) (reader : Reader) (error : ParseError) → ReadsScript side bytes reader (Err error) → failed {A = A} error ≡ failed parse_errors.NoMemory
+    → (length bytes ≤ script_limit) × CanRunOut side (lines_of bytes)
+ran-out side bytes reader (parse_errors.Script f) reads e = absurd cc
+ran-out side bytes reader parse_errors.NoMemory reads e = reads

@@ -10,7 +10,7 @@ use Rattle.np_script_builder.specs.Building.{at_start}
 use Rattle.np_script.specs.declared.error.ParseError.{ParseError}
 use Rattle.np_script.specs.declared.error.ParseError.TheVariants as errors
 use Rattle.np_script.specs.declared.reader.Reader.{Reader}
-use Rattle.np_script.specs.Reading.{HasRead}
+use Rattle.np_script.specs.Reading.{HasRead, CanRunOut}
 
 -- nothing was read
 pub record IsFresh (reader : Reader) : Type 0 where
@@ -28,7 +28,7 @@ pub record HasReadAll (side : Side) (bytes : List ℕ) (reader : Reader) : Type 
 abbrev pub ReadsAll : Side → List ℕ → Reader → Result (Unit {0}) ParseError → Type 0
 ReadsAll side bytes reader (Ok done) = HasReadAll side bytes reader
 ReadsAll side bytes reader (Err (errors.Script e)) = IsRefusedLine side (lines_of bytes) e
-ReadsAll side bytes reader (Err errors.NoMemory) = Unit {0}
+ReadsAll side bytes reader (Err errors.NoMemory) = CanRunOut side (lines_of bytes)
 
 -- all lines were read, and a script may end after them
 pub record HasReadScript (side : Side) (bytes : List ℕ) (reader : Reader) : Type 0 where
@@ -40,4 +40,4 @@ pub record HasReadScript (side : Side) (bytes : List ℕ) (reader : Reader) : Ty
 abbrev pub ReadsScript : Side → List ℕ → Reader → Result (Unit {0}) ParseError → Type 0
 ReadsScript side bytes reader (Ok done) = HasReadScript side bytes reader
 ReadsScript side bytes reader (Err (errors.Script e)) = FirstError side bytes e
-ReadsScript side bytes reader (Err errors.NoMemory) = Unit {0}
+ReadsScript side bytes reader (Err errors.NoMemory) = (length bytes ≤ script_limit) × CanRunOut side (lines_of bytes)

@@ -4,7 +4,7 @@ use Rattle.np_values.specs.declared.name.Side.{Side}
 use Rattle.np_script_grammar.specs.declared.refusal.ScriptKind.{ScriptKind}
 use Rattle.np_script_grammar.specs.declared.refusal.ScriptKind.TheVariants as kinds
 use Rattle.np_script_grammar.specs.Words.{is_line, words_of, is_skipped}
-use Rattle.np_script_grammar.specs.Forms.{Form, Line, line_words}
+use Rattle.np_script_grammar.specs.Forms.{Form, Line, form_of, line_words}
 use Rattle.np_script_grammar.specs.Tables.{table_at}
 use Rattle.np_script_grammar.specs.Order.{Standing, at_first, standing_after, declares_twice, MayFollow}
 use Rattle.np_script_grammar.specs.Grammar.{AreLinesOf}
@@ -38,11 +38,20 @@ HasKind side s words kinds.Limit = (form : Form) × (l : Line) × HasFields (tab
 HasKind side s words kinds.Twice = (form : Form) × (l : Line) × HasFields (table_at side s.place) words form l × ¬ PassesLimit s form l × (declares_twice s l ≡ true)
 HasKind side s words kinds.End = ⊥
 
--- the words were read, or refused, or memory ran out
+-- Reading these words takes memory: the first may stand there, and others follow or the line is accepted.
+pub record WordsTakeMemory (side : Side) (s : Standing) (words : List (List ℕ)) : Type 0 where
+  pub word : List ℕ
+  pub others : List (List ℕ)
+  pub words_are : words ≡ word ∷ others
+  pub form : Form
+  pub listed : form_of (table_at side s.place) word ≡ Some form
+  pub accepted : others ≡ [] → MayFollow side s (word, [])
+
+-- the words were read, or refused, or memory ran out where they take some
 abbrev pub ReadsWords : Side → Standing → Building → List (List ℕ) → Standing → Building → Result (Unit {0}) LineError → Type 0
 ReadsWords side order building words order1 building1 (Ok done) = GoesOn side order building words order1 building1
 ReadsWords side order building words order1 building1 (Err (errors.Refused kind)) = HasKind side order words kind
-ReadsWords side order building words order1 building1 (Err errors.NoMemory) = Unit {0}
+ReadsWords side order building words order1 building1 (Err errors.NoMemory) = WordsTakeMemory side order words
 
 -- ---- the lines of a text
 
@@ -58,8 +67,19 @@ pub record Refuses (side : Side) (order : Standing) (line : List ℕ) (kind : Sc
   pub is_kind : IsKind side order line kind
   pub counts : is_line line ≡ true → is_skipped (words_of line) ≡ false
 
--- a line was read after any text that led there, or refused, or memory ran out
+-- a line was read after any text that led there, or refused, or memory ran out where its words take some
 abbrev pub ReadsLine : Side → Standing → Building → List ℕ → Standing → Building → Result (Unit {0}) LineError → Type 0
 ReadsLine side order building line order1 building1 (Ok done) = (text : List (List ℕ)) → HasRead side text order building → HasRead side (text ++ line ∷ []) order1 building1
 ReadsLine side order building line order1 building1 (Err (errors.Refused kind)) = Refuses side order line kind
-ReadsLine side order building line order1 building1 (Err errors.NoMemory) = Unit {0}
+ReadsLine side order building line order1 building1 (Err errors.NoMemory) = (is_line line ≡ true) × WordsTakeMemory side order (words_of line)
+
+-- Memory may run out while a text is read: lines of a script come first, and then one whose words take memory.
+pub record CanRunOut (side : Side) (text : List (List ℕ)) : Type 0 where
+  pub before : List (List ℕ)
+  pub line : List ℕ
+  pub behind : List (List ℕ)
+  pub lines : List Line
+  pub text_is : text ≡ before ++ line ∷ behind
+  pub so_far : AreLinesOf side before lines
+  pub plain : is_line line ≡ true
+  pub takes : WordsTakeMemory side (standing_behind at_first lines) (words_of line)

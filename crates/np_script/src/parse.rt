@@ -6,6 +6,8 @@ ghost use Rattle.np_script_grammar.specs.declared.plugin.Plugin.{Plugin as Plugi
 ghost use Rattle.np_script_grammar.specs.declared.refusal.ScriptError.{ScriptError as ErrorValue};
 ghost use Rattle.np_script_grammar.specs.Grammar.{IsPageScript, IsPluginScript};
 ghost use Rattle.np_script_grammar.specs.Refusals.{FirstError};
+ghost use Rattle.np_script_grammar.specs.Words.{lines_of};
+ghost use Rattle.np_script.specs.Reading.{CanRunOut};
 
 use crate::laws::{no_page_is_refused, no_plugin_is_refused, one_page, one_plugin};
 use crate::reader::{Reader, read_script};
@@ -26,6 +28,9 @@ pub fn parse_page(alloc: Global, bytes: &[u8]) -> Result<PageScript, ParseError>
     // Else it is refused for its first error.
     ensures refused { (e : ErrorValue) → result ≡ Err (ParseError.Script e) → FirstError of_page bytes.now e }
     ensures refused_only { (e : ErrorValue) → FirstError of_page bytes.now e → (result ≡ Err (ParseError.Script e)) ⊎ (result ≡ Err ParseError.NoMemory) }
+
+    // Memory runs out only at a line that takes some, after lines of a script.
+    ensures memory { result ≡ Err ParseError.NoMemory → (length bytes.now ≤ 1048576) × CanRunOut of_page (lines_of bytes.now) }
 {
     one_page();
     no_page_is_refused();
@@ -48,6 +53,9 @@ pub fn parse_plugin(alloc: Global, bytes: &[u8]) -> Result<PluginScript, ParseEr
     // Else it is refused for its first error.
     ensures refused { (e : ErrorValue) → result ≡ Err (ParseError.Script e) → FirstError of_plugin bytes.now e }
     ensures refused_only { (e : ErrorValue) → FirstError of_plugin bytes.now e → (result ≡ Err (ParseError.Script e)) ⊎ (result ≡ Err ParseError.NoMemory) }
+
+    // Memory runs out only at a line that takes some, after lines of a script.
+    ensures memory { result ≡ Err ParseError.NoMemory → (length bytes.now ≤ 1048576) × CanRunOut of_plugin (lines_of bytes.now) }
 {
     one_plugin();
     no_plugin_is_refused();

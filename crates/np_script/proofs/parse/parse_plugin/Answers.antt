@@ -1,6 +1,6 @@
 use Rattle.std.proofs.Common.{inl, Ok, ap, ◌∙◌}
 use Rattle.np_values.specs.declared.name.Side.TheVariants as sides
-use Rattle.np_script.proofs.WholeTexts.{plugin-given, only-error}
+use Rattle.np_script.proofs.WholeTexts.{plugin-given, only-error, ran-out}
 use Rattle.np_script.proofs.parse.parse_plugin.Goals as goal
 
 pub new-requires : goal.new-requires
@@ -23,3 +23,6 @@ returns-in-Ok-clause-refused_only c = λ e error.
 
 pub returns-in-Err-clause-refused_only : goal.returns-in-Err-clause-refused_only
 returns-in-Err-clause-refused_only c = only-error c.one_refusal.ensures.law sides.Plug c.args.bytes.now c.read_script.new.reader c.in-Err.error c.in-Err.ensures.script
+
+pub returns-in-Err-clause-memory : goal.returns-in-Err-clause-memory
+returns-in-Err-clause-memory c = ran-out sides.Plug c.args.bytes.now c.read_script.new.reader c.in-Err.error c.in-Err.ensures.script

@@ -4,7 +4,7 @@ use Rattle.np_script_grammar.specs.Words.{lines_of}
 use Rattle.np_script_grammar.specs.Order.{Standing}
 use Rattle.np_script_builder.specs.declared.state.Building.{Building}
 use Rattle.np_script_grammar.specs.Refusals.{IsRefusedLine}
-use Rattle.np_script.proofs.WholeTexts.{Builds, can-build, line-read, line-refused, refusal}
+use Rattle.np_script.proofs.WholeTexts.{Builds, can-build, line-read, line-refused, line-took, refusal}
 use Rattle.np_script.proofs.reader.read_lines.Goals as goal
 
 pub read_line-requires : goal.read_line-requires
@@ -27,3 +27,10 @@ pub loop-left-preserved : goal.loop-left-preserved
 loop-left-preserved c =
     line-read c.args.side c.args.bytes.now c.loop-left.left.now c.first_line.result.0.now c.first_line.result.1.now c.loop-left.reader.order c.read_line.new.order c.loop-left.reader.builder c.read_line.new.builder
     c.loop-left.reader.lines (c.loop-left.reader.lines + 1) tt c.loop-left.invariant c.first_line.ensures.lines c.first_line.ensures.shorter refl c.in-Ok.ensures.line
+
+pub returns-in-Err-NoMemory : goal.returns-in-Err-NoMemory
+returns-in-Err-NoMemory c =
+    record {
+      all = line-took c.args.side c.args.bytes.now c.loop-left.left.now c.first_line.result.0.now c.first_line.result.1.now c.loop-left.reader.order c.read_line.new.order c.loop-left.reader.builder c.read_line.new.builder
+          c.loop-left.reader.lines c.in-Err-NoMemory.field-0 c.in-Err-NoMemory.field-0-is c.loop-left.invariant c.first_line.ensures.lines c.in-Err-NoMemory.ensures.line;
+    }
