@@ -2,8 +2,9 @@
 use Rattle.std.proofs.Common.{◌≡◌, ◌≢◌, ◌<◌, ℕ, zero, suc, List, [], ◌∷◌, ◌++◌, length, take, Option, inl, inr, ap, sym, ◌∙◌, refl, subst, append_assoc, arith}
 use Rattle.std.specs.Prelude.{decimal, codes}
 use Rattle.np_end_stops.specs.Causes.{Adds, AddsPart}
-use Rattle.np_end_lines.proofs.EndLines.{some_behind, end_line_is_some, refused_line_is_some}
-use Rattle.np_model.specs.Journal.{end_line}
+use Rattle.std.proofs.lemmas.List.{length-append}
+use Rattle.np_model.specs.declared.refusal.Refusal.{Refusal}
+use Rattle.np_model.specs.Journal.{end_line, refused_line, rule_name}
 use Rattle.np_show.specs.declared.outcome.Outcome.{Outcome}
 use Rattle.np_show.specs.declared.outcome.Outcome.TheVariants.{Ended, Refused, FileFailed}
 use Rattle.np_show.specs.Listing as listings
@@ -12,12 +13,22 @@ use Rattle.np_show.specs.Show.{IsPartText, IsDueText, IsShowStatus}
 use Rattle.np_show.specs.Taking.{AddsFront, ComesTo, outcome_lines, outcome_status, FailedOnly}
 use Rattle.np_show.proofs.Printing.{adds-then, adds-then-part, front-part}
 
+-- no last line is empty
+some-behind : (x y : List ℕ) → 0 < length y → 0 < length (x ++ y)
+some-behind x y some = let n = length-append x y in omega (arith, n, some)
+
+end-is-some : (status : ℕ) → 0 < length (end_line status)
+end-is-some status = some-behind (codes "end " ++ decimal status) (10 ∷ []) (omega arith)
+
+refused-is-some : (r : Refusal) → 0 < length (refused_line r)
+refused-is-some r = some-behind (codes "end 7 at " ++ decimal r.at ++ codes " " ++ rule_name r.rule ++ codes " " ++ decimal r.first ++ codes " " ++ decimal r.second) (10 ∷ []) (omega arith)
+
 tail-is-some : (t : Tail) → 0 < length (tail_lines t)
-tail-is-some (Left n) = some_behind (rest_line n) (end_line 0) (end_line_is_some 0)
-tail-is-some (listings.Refused r) = refused_line_is_some r
+tail-is-some (Left n) = some-behind (rest_line n) (end_line 0) (end-is-some 0)
+tail-is-some (listings.Refused r) = refused-is-some r
 
 pub rest-part : (taken : Option (List ℕ)) (left : ℕ) → 0 < length (rest_line left ++ end_line 0)
-rest-part taken left = some_behind (rest_line left) (end_line 0) (end_line_is_some 0)
+rest-part taken left = some-behind (rest_line left) (end_line 0) (end-is-some 0)
 
 -- all was printed
 pub shows-all : (content : List ℕ) (a b c : Option (List ℕ)) (outcome : Outcome) (status : ℕ) → ComesTo content a b outcome → Adds b c (outcome_lines outcome) → status ≡ outcome_status outcome → status ≢ 4

@@ -5,3 +5,4 @@ pub mod Printing
 pub mod Pieces
 pub mod Endings
 pub mod Shown
+pub mod FileReads

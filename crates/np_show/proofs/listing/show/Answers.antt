@@ -1,6 +1,6 @@
 use Rattle.np_ports.specs.Causes.{Rose}
-use Rattle.np_end_stops.proofs.Stops.{on-stop}
 use Rattle.np_show.specs.Show.{ShowCut}
+use Rattle.np_show.proofs.FileReads.{on-stop}
 use Rattle.np_show.proofs.Endings.{shows-all, shows-part, cut-late, cut-early}
 use Rattle.np_show.proofs.listing.show.Goals as goal
 

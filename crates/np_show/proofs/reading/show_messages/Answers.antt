@@ -4,12 +4,11 @@ use Rattle.np_model.specs.declared.refusal.Refusal.{Refusal}
 use Rattle.np_message.specs.declared.wire.WireError.{WireError}
 use Rattle.np_message.specs.Decoding.{Partial, front}
 use Rattle.np_wire.specs.Feed.{Fed}
-use Rattle.np_ports.proofs.Transfers.{known_read, no_failure}
-use Rattle.np_end_stops.proofs.Stops.{on-stop}
 use Rattle.np_show.specs.declared.outcome.Outcome.TheVariants as outcomes
 use Rattle.np_show.specs.Taking.{AddsFront, ComesTo, StandsAt}
 use Rattle.np_show.specs.Listing.{file_listing}
 use Rattle.np_ports.specs.Files.{Contents}
+use Rattle.np_show.proofs.FileReads.{piece-of, no-failure, on-stop}
 use Rattle.np_show.proofs.Fronts.{empty-front}
 use Rattle.np_show.proofs.Pieces.{Stands, nothing-read, piece-read, piece-length, no-fault, file-ended, file-too-long, file-refused, file-failed, stopped-between, stopped-within}
 use Rattle.np_show.proofs.reading.show_messages.Goals as goal
@@ -34,20 +33,20 @@ returns-in-Err-NoMemory-clause-front g c = λ f e. stopped-between (f c.args.nam
 
 pub returns-then-n-eq0-clause-comes : goal.returns-then-n-eq0-clause-comes
 returns-then-n-eq0-clause-comes g c = λ f e.
-    let call = known_read _ _ _ _ _ _ f (c.loop-total.invariant.files f e) c.in-Ok.ensures.contents in
+    let call = piece-of _ _ _ _ _ _ f (c.loop-total.invariant.files f e) c.in-Ok.ensures.contents in
     subst (λ (n : ℕ). ComesTo (f c.args.name.now) (g.O.Sink.taken c.args.out.now) (g.O.Sink.taken c.loop-total.out) (outcomes.Ended (c.loop-total.total - n))) (sym c.consumed.ensures.value)
     (file-ended (f c.args.name.now) c.loop-total.total c.loop-total.feed _ _ (c.loop-total.invariant.stands f e) c.loop-total.invariant.waits c.loop-total.invariant.count (omega arith) (call.2 c.if-n-eq0.true))
 
 pub returns-in_err-error-clause-front : goal.returns-in_err-error-clause-front
 returns-in_err-error-clause-front g c =
     let cut : (f : Contents) → g.F.Files.contents c.args.files.now ≡ Some f → AddsFront (g.O.Sink.taken c.args.out.now) (g.O.Sink.taken c.show_piece.new.out) (file_listing (f c.args.name.now)).lines = λ f e.
-    let call = known_read _ _ _ _ _ _ f (c.loop-total.invariant.files f e) c.in-Ok.ensures.contents in
+    let call = piece-of _ _ _ _ _ _ f (c.loop-total.invariant.files f e) c.in-Ok.ensures.contents in
     stopped-within (f c.args.name.now) c.read.new.buf (drop c.min-room.result c.loop-total.buf) c.loop-total.total c.in-Ok.n c.loop-total.feed _ _ _ (c.loop-total.invariant.stands f e) c.in-Ok.ensures.bound call.1 (grind (arith, common_steps)) c.in_err-error.ensures.front in
     on-stop _ _ cut
 
 pub returns-in-Some-clause-comes : goal.returns-in-Some-clause-comes
 returns-in-Some-clause-comes g c = λ f e.
-    let call = known_read _ _ _ _ _ _ f (c.loop-total.invariant.files f e) c.in-Ok.ensures.contents in
+    let call = piece-of _ _ _ _ _ _ f (c.loop-total.invariant.files f e) c.in-Ok.ensures.contents in
     let stands = piece-read (f c.args.name.now) c.read.new.buf (drop c.min-room.result c.loop-total.buf) c.loop-total.total c.in-Ok.n c.loop-total.feed c.show_piece.new.feed _ _ _ (c.loop-total.invariant.stands f e) c.in-Ok.ensures.bound call.1 c.in_ok-error.ensures.printed in
     let bad = subst (λ (o : Option WireError). StandsAt c.show_piece.new.feed o) c.in-Some.is c.in_ok-error.ensures.stands in
     subst (λ (r : Refusal). ComesTo (f c.args.name.now) (g.O.Sink.taken c.args.out.now) (g.O.Sink.taken c.show_piece.new.out) (outcomes.Refused r)) (sym c.of_fault.ensures.value)
@@ -62,12 +61,12 @@ loop-total-preserved g c = record {
       omega (arith, n, m, k);
   limit = grind (arith, common_steps);
   waits = no-fault c.show_piece.new.feed c.in_ok-error.field-0 c.in_default.is c.in_ok-error.ensures.stands;
-  files = λ f e. (known_read _ _ _ _ _ _ f (c.loop-total.invariant.files f e) c.in-Ok.ensures.contents).0;
+  files = λ f e. (piece-of _ _ _ _ _ _ f (c.loop-total.invariant.files f e) c.in-Ok.ensures.contents).0;
   stands = λ f e.
-      let call = known_read _ _ _ _ _ _ f (c.loop-total.invariant.files f e) c.in-Ok.ensures.contents in
+      let call = piece-of _ _ _ _ _ _ f (c.loop-total.invariant.files f e) c.in-Ok.ensures.contents in
       piece-read (f c.args.name.now) c.read.new.buf (drop c.min-room.result c.loop-total.buf) c.loop-total.total c.in-Ok.n c.loop-total.feed c.show_piece.new.feed _ _ _ (c.loop-total.invariant.stands f e) c.in-Ok.ensures.bound call.1 c.in_ok-error.ensures.printed;
   faults = c.in-Ok.ensures.count ∙ c.loop-total.invariant.faults;
-  failed = λ x e. no_failure _ _ c.in-Ok.n c.args.name.now x (c.loop-total.invariant.failed x e) c.in-Ok.ensures.failed_calls;
+  failed = λ x e. no-failure _ _ c.in-Ok.n c.args.name.now x (c.loop-total.invariant.failed x e) c.in-Ok.ensures.failed_calls;
   sink = c.in_ok-error.ensures.sink_count ∙ c.loop-total.invariant.sink;
 }
 

@@ -1,4 +1,4 @@
-use Rattle.np_end_stops.proofs.Stops.{on-stop}
+use Rattle.np_show.proofs.FileReads.{on-stop}
 use Rattle.np_show.proofs.Pieces.{nothing-front, piece-front}
 use Rattle.np_show.proofs.reading.show_piece.Goals as goal
 
