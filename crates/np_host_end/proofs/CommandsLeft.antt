@@ -1,5 +1,5 @@
 -- What holds of the commands that are left.
-use Rattle.std.proofs.Common.{◌≡◌, ℕ, ◌+◌, ◌<◌, ◌≤◌, List, [], ◌∷◌, length, drop, get_or, leb, Bool, true, false, ◌&&◌, refl, ap, sym, ◌∙◌, arith}
+use Rattle.std.proofs.Common.{◌≡◌, ℕ, ◌+◌, ◌<◌, ◌≤◌, List, [], ◌∷◌, ◌++◌, length, drop, get_or, leb, Bool, true, false, ◌&&◌, refl, ap, sym, ◌∙◌, arith}
 use Rattle.std.proofs.lemmas.Bool.{leb-true}
 use Rattle.std.proofs.lemmas.List.{drop_more}
 use Rattle.np_model.specs.declared.script.Command.{Command}
@@ -9,6 +9,10 @@ use Rattle.np_model.specs.Script.{commands_fit}
 both : (a b : Bool) → (a && b) ≡ true → (a ≡ true) × (b ≡ true)
 both true b h = (refl, h)
 both false b h = absurd cc
+
+and-true : (a b : Bool) → a ≡ true → b ≡ true → (a && b) ≡ true
+and-true true b e h = h
+and-true false b e h = absurd cc
 
 few : (begun : ℕ) (commands : List Command) → commands_fit begun commands ≡ true → begun ≤ 255
 few begun [] h = leb-true _ _ h
@@ -32,3 +36,13 @@ next_create begun n shown all x mime mode same lt is e h =
     let p = both _ _ there in
     let q = both _ _ p.1 in
     record { low = leb-true _ _ p.0; high = leb-true _ _ q.0; below = (let r : begun + 1 ≤ 255 = few (begun + 1) (drop (n + 1) all) q.1 in omega arith); rest_fits = q.1 }
+
+-- a further turn line fits
+pub fits_turn : (begun : ℕ) (commands : List Command) → commands_fit begun commands ≡ true → commands_fit begun (commands ++ Turn ∷ []) ≡ true
+fits_turn begun [] h = h
+fits_turn begun (Create mime mode ∷ commands) h =
+    let p = both (leb 1 mode) _ h in
+    let q = both (leb mode 2) _ p.1 in
+    let r = fits_turn (begun + 1) commands q.1 in
+    and-true (leb 1 mode) _ p.0 (and-true (leb mode 2) _ q.0 r)
+fits_turn begun (Turn ∷ commands) h = fits_turn begun commands h

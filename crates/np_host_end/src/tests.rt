@@ -23,9 +23,11 @@ const CODE_0: &[u8] = b"\0\0\0\x05\x45\x01\0\0\0";
 
 const DONE: &[u8] = b"\0\0\0\x04\x47\x01\0\0";
 
-// The bytes of the plug-in, what is to come of them, and the journal where it is lost after them.
+// How many `turn` lines the page has, the bytes of the plug-in, what is to come of them, and the journal where
+// it is lost after them.
 #[derive(Drop)]
 struct Row<'a> {
+    turns: u16,
     given: &'a [&'a [u8]],
     state: State,
     outgoing: &'a [&'a [u8]],
@@ -33,8 +35,9 @@ struct Row<'a> {
     lost: &'a [u8],
 }
 
-// The page of the commands `create "t/x" embed` and `turn`.
-fn page(alloc: Global) -> Result<Page, Fail>
+// The page of the command `create "t/x" embed` and this many commands `turn`.
+#[tactic(auto, using(crate::proofs::CommandsLeft::fits_turn))]
+fn page(alloc: Global, turns: u16) -> Result<Page, Fail>
     ensures { IfOk result (λ page. commands_fit 0 page.commands ≡ true) }
 {
     let mut commands = Commands::new(alloc);
@@ -42,7 +45,9 @@ fn page(alloc: Global) -> Result<Page, Fail>
         mime: Text::new(alloc, b"t/x")?,
         mode: 1,
     })?;
-    commands.push(Command::Turn)?;
+    for _ in 0..turns {
+        commands.push(Command::Turn)?;
+    }
     Ok(Page {
         major: 0,
         minor: 27,
@@ -146,7 +151,7 @@ fn runs(rt: &impl Abort, alloc: Global, row: &Row, size: usize) -> Result<(), Fa
         outgoing: Vec::new(alloc),
         journal: Vec::new(alloc),
     };
-    let mut end = HostEnd::new(alloc, page(alloc)?)?;
+    let mut end = HostEnd::new(alloc, page(alloc, row.turns)?)?;
     give(&mut end, &given, size, &mut carried)?;
     carry_off(&mut end, 4096, &mut carried)?;
     assert_eq!(rt; *end.state(), row.state);
@@ -163,6 +168,7 @@ fn runs(rt: &impl Abort, alloc: Global, row: &Row, size: usize) -> Result<(), Fa
 fn worked_examples(rt: HostRuntime) -> Result<(), Fail> {
     let rows = [
         Row {
+            turns: 1,
             given: &[CODE_0, CODE_0, DONE, CODE_0, DONE],
             state: State::Finished,
             outgoing: &[HELLO, NEW, TURN, DESTROY, SHUTDOWN],
@@ -170,6 +176,7 @@ fn worked_examples(rt: HostRuntime) -> Result<(), Fail> {
             lost: b"1: error 0\n2: true void\n",
         },
         Row {
+            turns: 1,
             given: &[CODE_0, CODE_0, b"\0\0\0\x04\x47\x01\0"],
             state: State::Waiting,
             outgoing: &[HELLO, NEW, TURN],
@@ -177,6 +184,7 @@ fn worked_examples(rt: HostRuntime) -> Result<(), Fail> {
             lost: b"1: error 0\n2: false\n",
         },
         Row {
+            turns: 1,
             given: &[CODE_0, CODE_0, DONE],
             state: State::Waiting,
             outgoing: &[HELLO, NEW, TURN, DESTROY],
@@ -184,6 +192,7 @@ fn worked_examples(rt: HostRuntime) -> Result<(), Fail> {
             lost: b"1: error 0\n2: true void\n",
         },
         Row {
+            turns: 1,
             given: &[],
             state: State::Waiting,
             outgoing: &[HELLO],
@@ -191,6 +200,7 @@ fn worked_examples(rt: HostRuntime) -> Result<(), Fail> {
             lost: b"1: error 4\n2: false\n",
         },
         Row {
+            turns: 1,
             given: &[CODE_0, b"\0\0\0\x05\x45\x01\0\0\x03", DONE, DONE],
             state: State::Finished,
             outgoing: &[HELLO, NEW, TURN, SHUTDOWN],
@@ -198,6 +208,7 @@ fn worked_examples(rt: HostRuntime) -> Result<(), Fail> {
             lost: b"1: error 3\n2: true void\n",
         },
         Row {
+            turns: 1,
             given: &[b"\0\0\0\x05\x45\x01\0\0\x08", DONE, DONE],
             state: State::Finished,
             outgoing: &[HELLO, TURN, SHUTDOWN],
@@ -206,6 +217,7 @@ fn worked_examples(rt: HostRuntime) -> Result<(), Fail> {
         },
         // What comes late for the dead instance changes nothing.
         Row {
+            turns: 1,
             given: &[
                 CODE_0,
                 b"\0\0\0\x05\x45\x01\0\0\x03",
@@ -219,6 +231,7 @@ fn worked_examples(rt: HostRuntime) -> Result<(), Fail> {
         },
         // The instance is destroyed only after the reply that gives its object back.
         Row {
+            turns: 1,
             given: &[
                 CODE_0,
                 CODE_0,
@@ -236,4 +249,32 @@ fn worked_examples(rt: HostRuntime) -> Result<(), Fail> {
         runs(&rt, rt.alloc(), row, 4096)?;
     }
     Ok(())
+}
+
+// A page of 301 commands is run to its end.
+#[test]
+fn many_commands(rt: HostRuntime) -> Result<(), Fail> {
+    let alloc = rt.alloc();
+    let mut given = joined(alloc, &[CODE_0, CODE_0])?;
+    let mut outgoing = joined(alloc, &[HELLO, NEW])?;
+    let mut journal = joined(alloc, &[b"1: error 0\n"])?;
+    for number in 2..=301u16 {
+        given.extend_from_slice(DONE)?;
+        outgoing.extend_from_slice(TURN)?;
+        let line = format!(in alloc; "{number}: true void\n")?;
+        journal.extend_from_slice(line.as_bytes())?;
+    }
+    given.extend_from_slice(CODE_0)?;
+    given.extend_from_slice(DONE)?;
+    outgoing.extend_from_slice(DESTROY)?;
+    outgoing.extend_from_slice(SHUTDOWN)?;
+    let row = Row {
+        turns: 300,
+        given: &[given.as_slice()],
+        state: State::Finished,
+        outgoing: &[outgoing.as_slice()],
+        journal: journal.as_slice(),
+        lost: journal.as_slice(),
+    };
+    runs(&rt, alloc, &row, 100)
 }
