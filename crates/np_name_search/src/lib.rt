@@ -4,5 +4,5 @@
 mod named;
 mod search;
 
-pub use named::Named;
+pub use named::{Named, NumberedName, number_of};
 pub use search::count_before;

@@ -8,7 +8,7 @@ ghost use Rattle.np_objects.specs.LiveObjects.{is_rising, is_there, object_at, h
 
 use crate::{FieldSet, Fields, LiveObject};
 use np_idents::IdKey;
-use np_name_search::count_before;
+use np_name_search::{NumberedName, count_before};
 use np_values::{Name, NameList, NoMemory, Value};
 use std::alloc::Global;
 use std::marker::Model;
@@ -17,7 +17,7 @@ use std::marker::Model;
 // it reads little memory.
 #[derive(Drop)]
 pub struct LiveObjects {
-    names: Vec<Name>,
+    names: Vec<NumberedName>,
     objects: Vec<LiveObject>,
 }
 
@@ -42,7 +42,7 @@ fn is_free(holds: u64, pinned: bool) -> bool
 
 // Puts an object at a place, and its name beside it; or neither.
 fn put_beside(
-    names: &mut Vec<Name>,
+    names: &mut Vec<NumberedName>,
     objects: &mut Vec<LiveObject>,
     place: usize,
     object: LiveObject,
@@ -54,7 +54,7 @@ fn put_beside(
     ensures same_names { OnErr result (names.new.items ≡ names.old.items) }
     ensures same_objects { OnErr result (objects.new.items ≡ objects.old.items) }
 {
-    names.insert(place, object.name)?;
+    names.insert(place, NumberedName::new(object.name))?;
     match objects.insert(place, object) {
         Ok(()) => return Ok(()),
         Err(_) => {}

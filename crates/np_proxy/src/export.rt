@@ -1,4 +1,5 @@
 use crate::named::Named;
+use np_name_search::number_of;
 use np_values::Name;
 
 /// An object of this side that the other side may name.
@@ -16,5 +17,9 @@ impl Named for Export {
 
     fn name(&self) -> Name {
         self.name
+    }
+
+    fn number(&self) -> u64 {
+        number_of(self.name)
     }
 }

@@ -1,4 +1,5 @@
 use crate::named::Named;
+use np_name_search::number_of;
 use np_values::Name;
 
 /// A proxy: what this side knows of an object of the other side that it names.
@@ -18,5 +19,9 @@ impl Named for Import {
 
     fn name(&self) -> Name {
         self.name
+    }
+
+    fn number(&self) -> u64 {
+        number_of(self.name)
     }
 }
