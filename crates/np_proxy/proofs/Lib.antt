@@ -9,3 +9,4 @@ pub mod NameLemmas
 pub mod KeepingLemmas
 pub mod CountLemmas
 pub mod SendingLemmas
+pub mod CountedLemmas

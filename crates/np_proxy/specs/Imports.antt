@@ -5,7 +5,7 @@ use Rattle.np_values.specs.declared.name.Side.TheVariants.{Page}
 use Rattle.np_values.specs.declared.name.Name.{Name}
 use Rattle.np_values.specs.declared.value.Value.{Value}
 use Rattle.np_values.specs.declared.value.Value.TheVariants.{Void, Null, Bool as TruthValue, Int, Double, Text, Object}
-use Rattle.std.specs.List.{flat_map}
+use Rattle.std.specs.List.{flat_map, list_all}
 use Rattle.np_values.specs.Name.{is_same_side}
 use Rattle.np_proxy_release.specs.declared.release.Release.{Release}
 use Rattle.np_proxy.specs.declared.import.Import.{Import}
@@ -214,3 +214,19 @@ pub record KeepsImports (imports : Imported) (capacity : ℕ) : Type 0 where
   pub others : (x : Name) → is_there import_name x imports.proxies ≡ true → is_same_side x.side imports.side ≡ false
   -- what came can be released
   pub fit : (x : Name) → is_same_side x.side imports.side ≡ false → received_of imports x + pending_of imports x < 2 ^ 32
+
+-- the object came at least once
+abbrev pub has_come : Import → Bool
+has_come e = nat_lt 0 e.received
+
+-- at least one reference is given back
+abbrev pub gives_back : Release → Bool
+gives_back r = nat_lt 0 r.times
+
+pub record AreCounted (proxies : List Import) (releases : List Release) : Type 0 where
+  pub came : list_all has_come proxies ≡ true
+  pub given : list_all gives_back releases ≡ true
+
+pub record HoldsImports (imports : Imported) (capacity : ℕ) : Type 0 where
+  pub keeps : KeepsImports imports capacity
+  pub counted : AreCounted imports.proxies imports.releases

@@ -1,6 +1,7 @@
 ghost use Rattle.std.specs.Prelude.{◌≡◌, ◌+◌, ◌-◌, ◌<◌, ◌^◌, [], None, true, length, replicate, false, ℕ, IfOk, IfErr, OnOk, OnErr};
+ghost use Rattle.std.specs.List.{list_all};
 ghost use Rattle.np_values.specs.declared.name.Name.{Name};
-ghost use Rattle.np_proxy.specs.Imports.{holders_of, first_full, accepted, held, unheld, cleared, names_held, purged_of, was_purged, release_name, KeepsImports, IsCause};
+ghost use Rattle.np_proxy.specs.Imports.{holders_of, first_full, accepted, held, unheld, cleared, names_held, purged_of, was_purged, release_name, gives_back, KeepsImports, IsCause};
 ghost use Rattle.np_proxy.specs.Named.{is_rising, itself};
 
 use crate::named::find;
@@ -23,13 +24,13 @@ pub struct Imports {
 
 impl Model for Imports {
     ghost use Rattle.std.specs.Vec.{vec_capacity};
-    ghost use Rattle.np_proxy.specs.Imports.{Imported, KeepsImports};
+    ghost use Rattle.np_proxy.specs.Imports.{Imported, HoldsImports};
 
     ghost Value = { Imported };
 
     ghost view = { λ i. record { side = i.side; proxies = i.proxies.items; releases = i.releases.items; purged = i.purged } };
 
-    ghost invariant = { λ i. KeepsImports (record { side = i.side; proxies = i.proxies.items; releases = i.releases.items; purged = i.purged }) (vec_capacity i.releases) };
+    ghost invariant = { λ i. HoldsImports (record { side = i.side; proxies = i.proxies.items; releases = i.releases.items; purged = i.purged }) (vec_capacity i.releases) };
 }
 
 impl Imports {
@@ -119,6 +120,7 @@ impl Imports {
     pub fn releases(&self) -> &[Release]
         ensures value { result.now ≡ self.now.releases }
         ensures rising { is_rising release_name self.now.releases ≡ true }
+        ensures counted { list_all gives_back self.now.releases ≡ true }
         ensures keeps { (capacity : ℕ) × KeepsImports self.now capacity }
     {
         self.releases.as_slice()

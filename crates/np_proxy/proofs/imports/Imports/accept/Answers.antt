@@ -5,8 +5,9 @@ use Rattle.np_values.specs.declared.name.Side.{Side}
 use Rattle.np_proxy_release.specs.declared.release.Release.{Release}
 use Rattle.np_proxy.specs.declared.import.Import.{Import}
 use Rattle.np_proxy.specs.Named.{is_rising}
-use Rattle.np_proxy.specs.Imports.{Imported, KeepsImports, import_name, holders_of, are_others, full_among, all_taken_up}
+use Rattle.np_proxy.specs.Imports.{Imported, HoldsImports, import_name, holders_of, are_others, full_among, all_taken_up}
 use Rattle.np_proxy.proofs.ImportLemmas.{none-without}
+use Rattle.np_proxy.proofs.CountedLemmas.{counted-accepted}
 use Rattle.np_proxy.proofs.KeepingLemmas.{keeps-accepted}
 use Rattle.np_proxy.proofs.imports.Imports.accept.Goals as goal
 
@@ -35,6 +36,6 @@ invariant_of-self c =
     let count = ap (λ (xs : List Name). length xs) c.names-2.ensures.same in
     let proxies = ap (λ (ps : List Import). length ps) c.make_room.ensures.proxies in
     let releases = ap (λ (rs : List Release). length rs) c.make_room.ensures.releases in
-    subst (λ (ps : List Import). KeepsImports (record before { proxies = ps; releases = c.make_room.new.releases.items }) capacity) (sym taken)
-    (subst (λ (rs : List Release). KeepsImports (record before { proxies = all_taken_up c.self.inside.purged names c.self.inside.proxies.items; releases = rs }) capacity) (sym c.make_room.ensures.releases)
-    (keeps-accepted before (vec_capacity c.self.inside.releases) capacity names c.self.invariant others found (omega (arith, c.in-Ok.ensures.pending, count, proxies, releases)) (subst (λ (ps : List Import). is_rising import_name ps ≡ true) taken c.take_up_all.ensures.rising)))
+    subst (λ (ps : List Import). HoldsImports (record before { proxies = ps; releases = c.make_room.new.releases.items }) capacity) (sym taken)
+    (subst (λ (rs : List Release). HoldsImports (record before { proxies = all_taken_up c.self.inside.purged names c.self.inside.proxies.items; releases = rs }) capacity) (sym c.make_room.ensures.releases)
+    (record { keeps = keeps-accepted before (vec_capacity c.self.inside.releases) capacity names c.self.invariant.keeps others found (omega (arith, c.in-Ok.ensures.pending, count, proxies, releases)) (subst (λ (ps : List Import). is_rising import_name ps ≡ true) taken c.take_up_all.ensures.rising); counted = counted-accepted c.self.inside.purged names c.self.inside.proxies.items c.self.inside.releases.items c.self.invariant.counted }))

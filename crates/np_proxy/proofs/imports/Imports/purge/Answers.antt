@@ -3,6 +3,7 @@ use Rattle.std.specs.List.{filter}
 use Rattle.np_proxy_release.specs.declared.release.Release.{Release}
 use Rattle.np_proxy.specs.declared.import.Import.{Import}
 use Rattle.np_proxy.specs.Imports.{Imported, import_name, is_held_in, is_proxy_of_other, is_release_of_other, purged_of}
+use Rattle.np_proxy.proofs.CountedLemmas.{counted-filtered}
 use Rattle.np_proxy.proofs.KeepingLemmas.{keeps-purged, held-names-rise}
 use Rattle.np_proxy.proofs.imports.Imports.purge.Goals as goal
 
@@ -10,7 +11,7 @@ pub invariant_of-self : goal.invariant_of-self
 invariant_of-self c =
     let before : Imported = record { side = c.self.inside.side; proxies = c.self.inside.proxies.items; releases = c.self.inside.releases.items; purged = c.self.inside.purged } in
     let now = slice_set c.self.inside.purged c.from.result true in
-    rw (c.remove_proxies.ensures.value, c.remove_releases.ensures.value, c.remove_releases.ensures.capacity) (keeps-purged before _ c.args.instance now c.self.invariant)
+    rw (c.remove_proxies.ensures.value, c.remove_releases.ensures.value, c.remove_releases.ensures.capacity) (record { keeps = keeps-purged before _ c.args.instance now c.self.invariant.keeps; counted = counted-filtered (is_proxy_of_other c.args.instance) (is_release_of_other c.args.instance) c.self.inside.proxies.items c.self.inside.releases.items c.self.invariant.counted })
 
 pub returns-clause-ok : goal.returns-clause-ok
 returns-clause-ok c =
@@ -23,4 +24,4 @@ returns-clause-ok c =
 pub returns-clause-rising : goal.returns-clause-rising
 returns-clause-rising c =
     let names = c.in_ok-names.ensures.value ∙ ap (λ (es : List Import). map import_name (filter (is_held_in c.args.instance) es)) c.as_slice.ensures.value in
-    rw names (held-names-rise c.args.instance c.self.inside.proxies.items c.self.invariant.proxies_rise)
+    rw names (held-names-rise c.args.instance c.self.inside.proxies.items c.self.invariant.keeps.proxies_rise)

@@ -3,7 +3,8 @@ use Rattle.np_proxy_release.specs.declared.release.Release.{Release}
 use Rattle.std.specs.Vec.{vec_capacity}
 use Rattle.np_proxy.specs.declared.import.Import.{Import}
 use Rattle.np_proxy.specs.Named.{is_rising, without_named}
-use Rattle.np_proxy.specs.Imports.{Imported, KeepsImports, import_name, release_name, held_once_less, holders_of, release_of, with_release}
+use Rattle.np_proxy.specs.Imports.{Imported, HoldsImports, import_name, release_name, held_once_less, holders_of, release_of, with_release}
+use Rattle.np_proxy.proofs.CountedLemmas.{counted-edited, counted-gone}
 use Rattle.np_proxy.proofs.KeepingLemmas.{keeps-edited, keeps-gone, there-held}
 use Rattle.np_proxy.proofs.imports.Imports.unhold.Goals as goal
 
@@ -14,15 +15,15 @@ invariant_of-self c =
     let gone = c.in-Some.ensures.value in
     let there = there-held name c.self.inside.proxies.items (subst (λ (i : Imported). 0 < holders_of i name) (sym c.self.view_is) c.requires.held) in
     let added = c.add_release.ensures.value ∙ ap (λ (n : ℕ). with_release (release_of name n) c.self.inside.releases.items) gone.1 in
-    subst (λ (ps : List Import). KeepsImports (record before { proxies = ps; releases = c.add_release.new.releases.items }) (vec_capacity c.add_release.new.releases)) (sym gone.2)
-    (subst (λ (rs : List Release). KeepsImports (record before { proxies = without_named import_name name c.self.inside.proxies.items; releases = rs }) (vec_capacity c.add_release.new.releases)) (sym added)
-    (keeps-gone before (vec_capacity c.self.inside.releases) (vec_capacity c.add_release.new.releases) name c.self.invariant there c.add_release.ensures.capacity
+    subst (λ (ps : List Import). HoldsImports (record before { proxies = ps; releases = c.add_release.new.releases.items }) (vec_capacity c.add_release.new.releases)) (sym gone.2)
+    (subst (λ (rs : List Release). HoldsImports (record before { proxies = without_named import_name name c.self.inside.proxies.items; releases = rs }) (vec_capacity c.add_release.new.releases)) (sym added)
+    (record { keeps = keeps-gone before (vec_capacity c.self.inside.releases) (vec_capacity c.add_release.new.releases) name c.self.invariant.keeps there c.add_release.ensures.capacity
     (subst (λ (ps : List Import). is_rising import_name ps ≡ true) gone.2 c.in-Some.ensures.rising)
-    (subst (λ (rs : List Release). is_rising release_name rs ≡ true) added c.add_release.ensures.rising)))
+    (subst (λ (rs : List Release). is_rising release_name rs ≡ true) added c.add_release.ensures.rising); counted = counted-gone name c.self.inside.proxies.items c.self.inside.releases.items there c.self.invariant.counted }))
 
 pub invariant_of-self-in-None : goal.invariant_of-self-in-None
 invariant_of-self-in-None c =
     let before : Imported = record { side = c.self.inside.side; proxies = c.self.inside.proxies.items; releases = c.self.inside.releases.items; purged = c.self.inside.purged } in
     let kept = c.in-None.ensures.value in
-    subst (λ (ps : List Import). KeepsImports (record before { proxies = ps }) (vec_capacity c.self.inside.releases)) (sym kept.1)
-    (keeps-edited before (vec_capacity c.self.inside.releases) c.args.name held_once_less (λ e. refl) (λ e. refl) c.self.invariant (subst (λ (ps : List Import). is_rising import_name ps ≡ true) kept.1 c.in-None.ensures.rising))
+    subst (λ (ps : List Import). HoldsImports (record before { proxies = ps }) (vec_capacity c.self.inside.releases)) (sym kept.1)
+    (record { keeps = keeps-edited before (vec_capacity c.self.inside.releases) c.args.name held_once_less (λ e. refl) (λ e. refl) c.self.invariant.keeps (subst (λ (ps : List Import). is_rising import_name ps ≡ true) kept.1 c.in-None.ensures.rising); counted = counted-edited c.args.name held_once_less c.self.inside.proxies.items c.self.inside.releases.items (λ e. refl) c.self.invariant.counted })
