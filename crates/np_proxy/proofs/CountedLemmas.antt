@@ -1,13 +1,13 @@
 -- Each proxy came at least once, so each pending release gives back at least one reference.
-use Rattle.std.proofs.Common.{◌≡◌, ℕ, zero, suc, ◌+◌, ◌<◌, List, [], ◌∷◌, drop, Bool, true, false, refl, sym, ap, ◌∙◌, subst, arith, true≢false}
-use Rattle.std.specs.Prelude.{◌&&◌, nat_lt}
+use Rattle.std.proofs.Common.{◌≡◌, ℕ, zero, suc, ◌+◌, List, [], ◌∷◌, drop, Bool, true, false, refl, sym, ap, ◌∙◌, arith, true≢false}
+use Rattle.std.specs.Prelude.{nat_lt}
 use Rattle.std.specs.List.{filter, list_all}
 use Rattle.std.proofs.lemmas.Bool.Decides.{nat_tests}
 use Rattle.np_values.specs.declared.name.Name.{Name}
 use Rattle.np_values.specs.Name.{is_before}
 use Rattle.np_proxy_release.specs.declared.release.Release.{Release}
 use Rattle.np_proxy.specs.declared.import.Import.{Import}
-use Rattle.np_proxy.specs.Named.{is_same, named_at, is_there, at_name, with_named, without_named}
+use Rattle.np_proxy.specs.Named.{is_same, is_there, at_name, with_named, without_named}
 use Rattle.np_proxy.specs.Imports.{AreCounted, has_come, gives_back, import_name, release_name, received_in, was_purged, came_again, first_came, taken_up, all_taken_up, more_times, with_release, release_of}
 use Rattle.np_proxy.proofs.Names.{and_parts, and_both}
 

@@ -5,9 +5,8 @@ ghost use Rattle.std.specs.Vec.{vec_capacity};
 ghost use Rattle.np_values.specs.Name.{is_before};
 ghost use Rattle.np_proxy.specs.Named.{is_rising, is_there, named_at, with_named, without_named, Finds};
 
-use np_values::{Name, NoMemory};
-
 pub use np_name_search::Named;
+use np_values::{Name, NoMemory};
 
 /// How many names stand before this one.
 pub fn place_of<T: Named>(entries: &[T], name: Name) -> usize

@@ -1,6 +1,5 @@
-use Rattle.std.proofs.Common.{◌≡◌, ◌∙◌, ap, sym, arith, Bool}
-use Rattle.std.specs.Prelude.{◌/◌, nat_lt, if◌then◌else◌}
-use Rattle.np_values.specs.declared.name.Name.{Name}
+use Rattle.std.proofs.Common.{◌∙◌, ap, arith, Bool}
+use Rattle.std.specs.Prelude.{◌/◌, if◌then◌else◌}
 use Rattle.np_values.specs.Name.{is_before}
 use Rattle.np_name_search.proofs.NumberLemmas.{less-is-before}
 use Rattle.np_name_search.proofs.Halving.{step, last}

@@ -16,4 +16,4 @@ returns-clause-within c =
 pub returns-clause-parts : goal.returns-clause-parts
 returns-clause-parts c =
     parts-of c.args.name c.self.inside.names.items c.self.inside.objects.items c.args.self.now c.count_before.result c.self.view_is c.self.invariant (subst (λ ys. c.count_before.result ≤ length ys) c.as_slice.ensures.value c.count_before.ensures.within)
-        (subst (λ ys. IsPartitionPoint (λ y. is_before (itself y) c.args.name ≡ true) (λ y. is_before (itself y) c.args.name ≡ false) ys c.count_before.result) c.as_slice.ensures.value c.count_before.ensures.parts)
+    (subst (λ ys. IsPartitionPoint (λ y. is_before (itself y) c.args.name ≡ true) (λ y. is_before (itself y) c.args.name ≡ false) ys c.count_before.result) c.as_slice.ensures.value c.count_before.ensures.parts)

@@ -17,9 +17,12 @@ invariant_of-self c =
     let added = c.add_release.ensures.value ∙ ap (λ (n : ℕ). with_release (release_of name n) c.self.inside.releases.items) gone.1 in
     subst (λ (ps : List Import). HoldsImports (record before { proxies = ps; releases = c.add_release.new.releases.items }) (vec_capacity c.add_release.new.releases)) (sym gone.2)
     (subst (λ (rs : List Release). HoldsImports (record before { proxies = without_named import_name name c.self.inside.proxies.items; releases = rs }) (vec_capacity c.add_release.new.releases)) (sym added)
-    (record { keeps = keeps-gone before (vec_capacity c.self.inside.releases) (vec_capacity c.add_release.new.releases) name c.self.invariant.keeps there c.add_release.ensures.capacity
-    (subst (λ (ps : List Import). is_rising import_name ps ≡ true) gone.2 c.in-Some.ensures.rising)
-    (subst (λ (rs : List Release). is_rising release_name rs ≡ true) added c.add_release.ensures.rising); counted = counted-gone name c.self.inside.proxies.items c.self.inside.releases.items there c.self.invariant.counted }))
+    (record {
+      keeps = keeps-gone before (vec_capacity c.self.inside.releases) (vec_capacity c.add_release.new.releases) name c.self.invariant.keeps there c.add_release.ensures.capacity
+          (subst (λ (ps : List Import). is_rising import_name ps ≡ true) gone.2 c.in-Some.ensures.rising)
+          (subst (λ (rs : List Release). is_rising release_name rs ≡ true) added c.add_release.ensures.rising);
+      counted = counted-gone name c.self.inside.proxies.items c.self.inside.releases.items there c.self.invariant.counted;
+    }))
 
 pub invariant_of-self-in-None : goal.invariant_of-self-in-None
 invariant_of-self-in-None c =
