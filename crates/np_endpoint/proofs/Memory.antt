@@ -5,7 +5,7 @@ use Rattle.np_message.specs.Message.{Message}
 use Rattle.np_message.specs.Encoding.{encoding, encodings}
 use Rattle.np_message.specs.Rules.{KeepsFormat, IsTyped}
 use Rattle.np_model.specs.Side.{SideState, Micro, run_steps, examine}
-use Rattle.np_model.specs.Run.{Awaits, Accepts, turn, endpoint_run}
+use Rattle.np_model.specs.Run.{Awaits, turn, endpoint_run}
 use Rattle.np_model.specs.Alone.{Role, MoreMessages}
 use Rattle.np_model.specs.Steps.{control_after}
 use Rattle.np_endpoint.specs.End.{HasPace}

@@ -1,10 +1,10 @@
 -- Where an end was when memory ran out.
-use Rattle.std.proofs.Common.{◌≡◌, ◌+◌, ◌<◌, ℕ, List, length, refl, ap, sym, ◌∙◌, subst, arith, inl, inr}
+use Rattle.std.proofs.Common.{◌≡◌, refl, ap, sym, ◌∙◌, subst, arith, inl, inr}
 use Rattle.np_message.specs.Message.{Message}
 use Rattle.np_model.specs.declared.script.Plugin.{Plugin}
 use Rattle.np_model.specs.Side.{SideState}
 use Rattle.np_model.specs.Run.{Pace, Awaits, Accepts}
-use Rattle.np_model.specs.PluginPlan.{PluginControl, plugin_pace, plugin_meet, serve_plan, lines_of_call}
+use Rattle.np_model.specs.PluginPlan.{PluginControl, plugin_pace, plugin_meet, serve_plan}
 use Rattle.np_model.specs.PluginRun.{IsListening}
 use Rattle.np_model.specs.Alone.{plugin_role}
 use Rattle.np_model.proofs.Paces.{plugin-awaits}
