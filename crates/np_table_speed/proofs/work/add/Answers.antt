@@ -1,7 +1,6 @@
-use Rattle.std.proofs.Common.{◌≡◌, subst, Some, IfSome, All, arith}
+use Rattle.std.proofs.Common.{◌≡◌, subst, Some, IfSome, arith}
 use Rattle.np_objects.specs.LiveObjects.{object_at, fresh}
 use Rattle.np_objects.specs.Objects.{after_create}
-use Rattle.np_table_speed.specs.Work.{IsIdle}
 use Rattle.np_table_speed.proofs.Idle.{all-made, all-others}
 use Rattle.np_table_speed.proofs.work.add.Goals as goal
 
