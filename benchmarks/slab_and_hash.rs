@@ -1,12 +1,13 @@
-// A slab of objects with a hash table of their names, and tables of references in hash tables, in plain Rust: what
-// benchmarks/tables measures the proved tables beside. The hash table is std's with its own hasher.
+// A slab of objects with a hash table of their names, in plain Rust: what benchmarks/tables measures np_objects' store beside.
+// The hash table is std's, with the hasher that it has by itself. The loops are those of np_table_speed.
 use std::collections::HashMap;
 use std::env;
-use std::hint::black_box;
 use std::process::exit;
 
+#[allow(dead_code)]
 #[derive(Clone, Copy, PartialEq, Eq, Hash)]
 enum Side {
+    Page,
     Plug,
 }
 
@@ -17,6 +18,7 @@ struct Name {
     serial: u32,
 }
 
+#[allow(dead_code)]
 struct Object {
     class: u32,
     fields: Vec<(u32, u64)>,
@@ -35,25 +37,41 @@ impl Store {
         self.slab.push(Some(Object { class: 0, fields: Vec::new(), holds: 0, pinned: false }));
     }
 
-    #[inline(never)]
     fn class_of(&self, name: Name) -> Option<u32> {
         let place = *self.places.get(&name)?;
         self.slab[place].as_ref().map(|object| object.class)
     }
 
-    #[inline(never)]
     fn hold(&mut self, name: Name) {
         let place = self.places[&name];
         let object = self.slab[place].as_mut().unwrap();
         object.holds = object.holds.checked_add(1).unwrap();
     }
 
-    #[inline(never)]
     fn unhold(&mut self, name: Name) -> bool {
         let place = self.places[&name];
         let object = self.slab[place].as_mut().unwrap();
         object.holds = object.holds.checked_sub(1).unwrap();
-        object.holds == 0 && !object.pinned && object.fields.is_empty()
+        object.holds == 0 && !object.pinned
+    }
+}
+
+fn look_each(store: &Store, names: &[Name], times: u32) {
+    for _ in 0..times {
+        for name in names {
+            if store.class_of(*name).is_none() {
+                exit(3);
+            }
+        }
+    }
+}
+
+fn hold_each(store: &mut Store, names: &[Name], times: u32) {
+    for _ in 0..times {
+        for name in names {
+            store.hold(*name);
+            store.unhold(*name);
+        }
     }
 }
 
@@ -67,19 +85,8 @@ fn main() {
     for name in &names {
         store.create(*name);
     }
-    for _ in 0..times {
-        for name in &names {
-            match words[1].as_str() {
-                "look" => {
-                    if black_box(store.class_of(*name)).is_none() {
-                        exit(3);
-                    }
-                }
-                _ => {
-                    store.hold(*name);
-                    black_box(store.unhold(*name));
-                }
-            }
-        }
+    match words[1].as_str() {
+        "look" => look_each(&store, &names, times),
+        _ => hold_each(&mut store, &names, times),
     }
 }
