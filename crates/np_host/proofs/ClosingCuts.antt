@@ -24,6 +24,7 @@ use Rattle.np_end_stops.proofs.Parts.{begins-append, begins-then}
 use Rattle.np_exchange.specs.Live.{AtEnding}
 use Rattle.np_exchange.specs.Closing.{ClosedPart}
 use Rattle.np_exchange.proofs.EndRests.{waits-at}
+use Rattle.np_exchange.proofs.PrintOrder.{prints-more, ending-prints}
 use Rattle.np_exchange.proofs.Sessions.{refusal-is, first-begins, more-begins}
 use Rattle.np_host.specs.Outcomes.{OutcomeOf}
 use Rattle.np_host.specs.Losing.{Loses, PrintsAlone, LosesPart}
@@ -101,6 +102,7 @@ page-part taken0 taken1 e ending kind is end adds = subst (λ (x : Ending). Clos
     let p = adds sink told in (
       sink ++ p.0,
       p.3,
+      ending-prints page_role page old now first sink p.0 e kind a,
       record {
         whole = sink ++ ending_line kind;
         reached = page-end page old now first sink e kind end a;
@@ -117,6 +119,7 @@ loss-part taken0 taken1 taken2 e ending kind is lost alone adds = subst (λ (x :
     let p = adds (sink ++ x.lines) x.taken_is in (
       (sink ++ x.lines) ++ p.0,
       p.3,
+      prints-more (page_role page) old now first (sink ++ x.lines) p.0 (ending-prints page_role page old now first sink x.lines e kind a),
       record {
         whole = (sink ++ x.lines) ++ ending_line kind;
         reached = loss page old now first sink x.lines e kind lost a x.goes_on;
@@ -133,6 +136,7 @@ losing-part taken0 taken1 e ending kind is lost alone = subst (λ (x : Ending). 
     let x = alone page l.got l.sent l.printed sink l.stands (loss-awaits page old now first sink e kind lost a) told in (
       sink ++ x.part,
       x.taken_is,
+      ending-prints page_role page old now first sink x.part e kind a,
       record {
         whole = (sink ++ x.lines) ++ ending_line kind;
         reached = loss page old now first sink x.lines e kind lost a (record { last = x.last; lost = x.lost; lines_are = x.lines_are });

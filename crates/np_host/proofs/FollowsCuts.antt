@@ -59,8 +59,8 @@ outcome-follows laws page plugin old first new sink given endings.Failed short o
 outcome-follows laws page plugin old first new sink given (endings.Refused r) short o e t = absurd (never-refused laws.never laws.few page plugin old first new sink given short o e t)
 
 cut-follows : RunLaws → (pipe_failed peer_ended : Type 0) (page : Page) (old : Known) (first : List ℕ) (new : Known) (sink : List ℕ) → length page.commands ≤ 1048576 → CutShort pipe_failed peer_ended page old first new sink → ForEachPlugin HostCut page old first new sink
-cut-follows laws pipe_failed peer_ended page old first new sink short (inl c) plugin given e t = inl (interrupted-follows laws page plugin old first new sink given c e t)
-cut-follows laws pipe_failed peer_ended page old first new sink short (inr (ending, reason, c)) plugin given e t = inr (c.whole, c.part, c.unfinished, c.first_stays, outcome-follows laws page plugin old first new c.whole given ending short c.reached e t)
+cut-follows laws pipe_failed peer_ended page old first new sink short (before, inl c) plugin given e t = (before, inl (interrupted-follows laws page plugin old first new sink given c e t))
+cut-follows laws pipe_failed peer_ended page old first new sink short (before, inr (ending, reason, c)) plugin given e t = (before, inr (c.whole, c.part, c.unfinished, c.first_stays, outcome-follows laws page plugin old first new c.whole given ending short c.reached e t))
 
 -- ---- of a run of the host
 

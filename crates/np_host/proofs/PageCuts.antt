@@ -1,5 +1,5 @@
 -- What a run did by the time that it was cut short, from the words on.
-use Rattle.std.proofs.Common.{◌≡◌, ℕ, List, [], ◌++◌, inl, inr, Option, Some, None, Ok, Err, refl, sym, subst, append-nil}
+use Rattle.std.proofs.Common.{◌≡◌, ◌≤◌, ◌+◌, ℕ, length, List, [], ◌++◌, inl, inr, Option, Some, None, Result, Ok, Err, refl, sym, subst, append-nil, arith}
 use Rattle.np_model.specs.declared.script.Page.{Page}
 use Rattle.np_model.specs.Journal.{end_line}
 use Rattle.np_ports.specs.Peer.{Known, Starts, started}
@@ -11,7 +11,7 @@ use Rattle.np_end_stops.specs.Causes.{AddsPart}
 use Rattle.np_end_lines.specs.ScriptLines.{ScriptRefusal, refusal_line}
 use Rattle.np_model_scripts.specs.Served.{SaysPage}
 use Rattle.np_host.specs.Words.{HostCommand, Run, Check, Show, host_command}
-use Rattle.np_exchange.specs.Session.{Told}
+use Rattle.np_exchange.specs.Session.{Told, GaveAtMost}
 use Rattle.np_host.specs.Outcomes.{CutShort}
 use Rattle.np_host.specs.Host.{IsRefusedPage, IsDueEarly, RunCut, OfRun, CutWords}
 use Rattle.np_end_lines.proofs.EndLines.{nothing_added, end_line_is_some}
@@ -48,6 +48,15 @@ due-start name program file_failed start_failed files known0 known1 e is starts 
 
 pub unstarted : (program : List (List ℕ)) (known0 known1 : Option Known) (e : PortError) → e ≡ ports.NoMemory → Starts known0 known1 (Err e) program → (old : Known) → known0 ≡ Some old → known1 ≡ Some old
 unstarted program known0 known1 e is starts old k = subst (λ (s : Option Known). Starts s known1 (Err ports.NoMemory) program) k (subst (λ (x : PortError). Starts known0 known1 (Err x) program) is starts)
+
+-- a start gives nothing
+pub start-gave : (limit : ℕ) (known0 known1 : Option Known) (r : Result (Unit {0}) PortError) (program : List (List ℕ)) → Starts known0 known1 r program → GaveAtMost limit known0 known1
+start-gave limit known0 known1 r program starts old k = at r (subst (λ (s : Option Known). Starts s known1 r program) k starts)
+  where
+    at : (r : Result (Unit {0}) PortError) → Starts (Some old) known1 r program → (new : Known) × (known1 ≡ Some new) × (length new.given ≤ length old.given + limit)
+    at (Ok x) is = (started old program, is, omega arith)
+    at (Err ports.Failed) is = (started old program, is, omega arith)
+    at (Err ports.NoMemory) is = (old, is, omega arith)
 
 -- ---- over a peer that was started
 

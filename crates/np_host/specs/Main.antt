@@ -15,7 +15,9 @@ use Rattle.np_model_wire_laws.specs.Prefix.{IsWhole}
 use Rattle.np_model_scripts.specs.Served.{SaysPage}
 use Rattle.np_host.specs.Words.{host_command}
 use Rattle.np_host.specs.Host.{OfRun}
+use Rattle.np_model.specs.Alone.{page_role}
 use Rattle.np_end_stops.specs.Causes.{BeginsWith}
+use Rattle.np_exchange.specs.Session.{PrintsFirst}
 
 -- Before this read the peer had taken all that the page sends in the run that only the whole messages given by then reach.
 pub record ReadFollows (page : Page) (plugin : Plugin) (old : Known) (given taken : List ℕ) (r : ℕ × ℕ) : Type 0 where
@@ -85,12 +87,13 @@ pub record HostInterrupted (page : Page) (plugin : Plugin) (old : Known) (first 
   pub taken_part : BeginsWith (encodings side.sent) taken
   pub exchange : FollowsExchange page plugin old new given taken
 
--- Statuses 8 and 10: so, or the sink took a part of the lines that it takes at 0, 5 or 6, and not all.
+-- Statuses 8 and 10: what was written to the peer was made where all lines had been printed; and it was cut short in the midst, or the sink took a part of the lines that it takes at 0, 5 or 6, and not all.
 abbrev pub HostCut : Page → Plugin → Known → List ℕ → Known → List ℕ → List ℕ → Type 0
 HostCut page plugin old first new sink given =
-    HostInterrupted page plugin old first new sink given
+    PrintsFirst (page_role page) old first new sink
+    × (HostInterrupted page plugin old first new sink given
     ⊎ ((whole : List ℕ) × (part : BeginsWith whole sink) × (0 < length part.rest) × BeginsWith sink first
-    × (HostDone page plugin old first new whole given ⊎ (HostLost page plugin old first new whole given ⊎ HostBroken page plugin old first new whole given)))
+    × (HostDone page plugin old first new whole given ⊎ (HostLost page plugin old first new whole given ⊎ HostBroken page plugin old first new whole given))))
 
 -- this holds for each plug-in whose wire text in the run of both begins with the bytes that the peer gave
 abbrev pub ForEachPlugin : (Page → Plugin → Known → List ℕ → Known → List ℕ → List ℕ → Type 0) → Page → Known → List ℕ → Known → List ℕ → Type 0

@@ -1,8 +1,9 @@
 //! The entry point of the host, over any environment.
 
-ghost use Rattle.std.specs.Prelude.{◌≡◌, ◌<◌, ◌⊎◌, ◌↔◌, ◌≢◌, length, map, string_bytes, IfOk, OnOk, OnErr, Some, None, true};
+ghost use Rattle.std.specs.Prelude.{◌≡◌, ◌<◌, ◌^◌, ◌⊎◌, ◌↔◌, ◌≢◌, length, map, string_bytes, IfOk, OnOk, OnErr, Some, None, true};
 ghost use Rattle.np_ports.specs.Causes.{Rose};
 ghost use Rattle.np_host.specs.Words.{host_command as command_in, texts};
+ghost use Rattle.np_exchange.specs.Session.{GaveAtMost};
 ghost use Rattle.np_exchange.specs.Closing.{IsUnrefusedStatus};
 ghost use Rattle.np_host.specs.Outcomes.{CutShort};
 ghost use Rattle.np_host.specs.Host.{RunsPage, RunCut, CutWords, StopsEarly, NotStarted, RefusesPage, OnlyRefused, RunsWords, UnrefusedWords, NotStartedWords, RefusesScript, OnlyRefusedScript, OfCheck, OfShow, IsNoShow, NotesScriptOnly, IsCutShort, IsEndStatus};
@@ -39,6 +40,7 @@ fn run<P: Peer, F: Files, O: Sink>(
     requires program { 0 < length program.now }
     ensures runs { IfOk result (λ status. RunsPage name.now (texts program.now) (F.contents files.old) (P.known peer.old) (P.known peer.new) (O.taken out.old) (O.taken out.new) status) }
     ensures cut { OnErr result (RunCut (CutShort (Rose (P.pipe_faults peer.old) (P.pipe_faults peer.new)) (P.has_ended peer.new ≡ true)) name.now (texts program.now) (Rose (F.faults files.old) (F.faults files.new)) (Rose (P.start_faults peer.old) (P.start_faults peer.new)) (F.contents files.old) (P.known peer.old) (P.known peer.new) (O.taken out.old) (O.taken out.new)) }
+    ensures read_limit { GaveAtMost (2 ^ 40) (P.known peer.old) (P.known peer.new) }
     ensures early { IfOk result (λ status. StopsEarly (P.known peer.old) (P.known peer.new) (O.taken out.old) (O.taken out.new) status) }
     ensures not_started { IfOk result (λ status. NotStarted (texts program.now) (P.known peer.old) (P.known peer.new) (O.taken out.old) (O.taken out.new) status) }
     ensures script { IfOk result (λ status. status ≡ BAD_SCRIPT → RefusesPage name.now (F.contents files.old) (O.taken out.old) (O.taken out.new)) }
@@ -90,6 +92,7 @@ fn serve<P: Peer, F: Files, O: Sink>(
 ) -> Result<u8, Stop>
     ensures runs { IfOk result (λ status. RunsWords (texts words.now) (F.contents files.old) (P.known peer.old) (P.known peer.new) (O.taken out.old) (O.taken out.new) status) }
     ensures cut { OnErr result (CutWords (CutShort (Rose (P.pipe_faults peer.old) (P.pipe_faults peer.new)) (P.has_ended peer.new ≡ true)) (texts words.now) (Rose (F.faults files.old) (F.faults files.new)) (Rose (P.start_faults peer.old) (P.start_faults peer.new)) (F.contents files.old) (P.known peer.old) (P.known peer.new) (O.taken out.old) (O.taken out.new)) }
+    ensures read_limit { GaveAtMost (2 ^ 40) (P.known peer.old) (P.known peer.new) }
     ensures early { IfOk result (λ status. IsNoShow (command_in (texts words.now)) → StopsEarly (P.known peer.old) (P.known peer.new) (O.taken out.old) (O.taken out.new) status) }
     ensures not_started { IfOk result (λ status. NotStartedWords (texts words.now) (P.known peer.old) (P.known peer.new) (O.taken out.old) (O.taken out.new) status) }
     ensures script { IfOk result (λ status. status ≡ BAD_SCRIPT → RefusesScript (texts words.now) (F.contents files.old) (O.taken out.old) (O.taken out.new)) }
@@ -168,6 +171,9 @@ pub fn host_main<P: Peer, F: Files, O: Sink>(
     ensures follows_broken { result ≡ PIPE_FAILED → FollowsWords HostBroken (texts words.now) (F.contents files.old) (P.known peer.old) (P.known peer.new) (O.taken out.old) (O.taken out.new) }
     ensures follows_cut { IsCutShort result → CutWords (ForEachPlugin HostCut) (texts words.now) (Rose (F.faults files.old) (F.faults files.new)) (Rose (P.start_faults peer.old) (P.start_faults peer.new)) (F.contents files.old) (P.known peer.old) (P.known peer.new) (O.taken out.old) (O.taken out.new) }
     ensures never_refused { result ≡ REFUSED → FollowsWords HostRefused (texts words.now) (F.contents files.old) (P.known peer.old) (P.known peer.new) (O.taken out.old) (O.taken out.new) }
+
+    // Of a peer that records its traffic at most 2^40 bytes were read, at every status.
+    ensures read_limit { GaveAtMost (2 ^ 40) (P.known peer.old) (P.known peer.new) }
 
     // What comes before a page runs, and of a check.
     ensures early { IsNoShow (command_in (texts words.now)) → StopsEarly (P.known peer.old) (P.known peer.new) (O.taken out.old) (O.taken out.new) result }

@@ -1,13 +1,13 @@
 //! A page over a started peer and a sink, from its first call to the status of the run.
 
-ghost use Rattle.std.specs.Prelude.{◌≡◌, OnOk, OnErr, IfOk, true, ◌⊎◌};
+ghost use Rattle.std.specs.Prelude.{◌≡◌, ◌^◌, OnOk, OnErr, IfOk, true, ◌⊎◌};
 ghost use Rattle.np_model.specs.Script.{commands_fit};
 ghost use Rattle.np_model.specs.Alone.{page_role};
 ghost use Rattle.np_ports.specs.Causes.{Rose};
 ghost use Rattle.np_end_stops.specs.Causes.{SinkCause, counted_output};
 ghost use Rattle.np_end_stops.specs.PeerCauses.{SessionCause, SessionEnded};
 ghost use Rattle.np_end_stops.specs.Status.{status_of, IsRunStatus, PIPE_FAILED, PEER_LOST};
-ghost use Rattle.np_exchange.specs.Session.{Told};
+ghost use Rattle.np_exchange.specs.Session.{Told, GaveAtMost};
 ghost use Rattle.np_exchange.specs.Closing.{EndsWith, Closed, ClosedPart};
 ghost use Rattle.np_host.specs.Outcomes.{OutcomeOf, CutShort};
 ghost use Rattle.np_host.specs.Losing.{Loses, LosesPart};
@@ -70,6 +70,7 @@ pub fn session<P: Peer, O: Sink>(
     requires fits { commands_fit 0 page.commands ≡ true }
     ensures outcome { IfOk result (λ status. EndsWith (OutcomeOf page) (P.known peer.old) (P.known peer.new) (O.taken out.old) (O.taken out.new) status) }
     ensures cut { OnErr result (Told (CutShort (Rose (P.pipe_faults peer.old) (P.pipe_faults peer.new)) (P.has_ended peer.new ≡ true) page) (P.known peer.old) (P.known peer.new) (O.taken out.old) (O.taken out.new)) }
+    ensures read_limit { GaveAtMost (2 ^ 40) (P.known peer.old) (P.known peer.new) }
     ensures status { IfOk result (λ status. IsRunStatus status) }
     ensures peer { SessionCause (P.pipe_faults peer.old) (P.pipe_faults peer.new) result }
     ensures ended { SessionEnded (P.has_ended peer.new) result }

@@ -6,9 +6,10 @@ use Rattle.np_model.specs.declared.script.Page.{Page}
 use Rattle.np_host.proofs.Pages.{only-page, refused-file, runs, ran-not}
 use Rattle.std.proofs.lemmas.Result.{on_err_weaker}
 use Rattle.np_host.specs.Words.{texts}
-use Rattle.np_host.proofs.PageCuts.{nothing-cut, early-cut, due-file, due-script, due-start, unstarted, page-cut}
+use Rattle.np_host.proofs.PageCuts.{nothing-cut, early-cut, due-file, due-script, due-start, unstarted, start-gave, page-cut}
 use Rattle.np_end_stops.proofs.Stops.{on-each, if-then, ok-then, on-stop, failed-cause}
 use Rattle.np_end_lines.proofs.EarlyLines.{early-line}
+use Rattle.np_exchange.proofs.Limits.{gave-nothing, gave-then}
 use Rattle.np_host.proofs.host.run.Goals as goal
 
 abbrev refusal : Unserved → Result Page Unserved
@@ -80,3 +81,30 @@ pub returns-in-Err-Unbuilt-clause-cut : goal.returns-in-Err-Unbuilt-clause-cut
 returns-in-Err-Unbuilt-clause-cut g c =
     on_err_weaker c.finish_unbuilt.result (λ adds. early-cut _ _ c.args.name.now (texts c.args.program.now) _ _ (g.F.Files.contents c.args.files.now) (g.P.Peer.known c.args.peer.now) (g.P.Peer.known c.args.peer.now) (g.O.Sink.taken c.args.out.now) (g.O.Sink.taken c.finish_unbuilt.new.out) unbuilt_line
     (due-script c.args.name.now (texts c.args.program.now) _ _ (g.F.Files.contents c.args.files.now) _ c.in-Ok.bytes.items c.deref.result.now (g.P.Peer.known c.args.peer.now) Unbuilt c.in-Ok.ensures.contents c.deref.ensures.value (c.serve_page.ensures.unbuilt (c.in-Err-Unbuilt.is ∙ ap refusal c.in-Err-Unbuilt.field-0-is))) adds) c.finish_unbuilt.ensures.part
+
+pub returns-in-Err-NoMemory-clause-read_limit : goal.returns-in-Err-NoMemory-clause-read_limit
+returns-in-Err-NoMemory-clause-read_limit g c = gave-nothing _ _
+
+pub returns-in-Err-Failed-clause-read_limit : goal.returns-in-Err-Failed-clause-read_limit
+returns-in-Err-Failed-clause-read_limit g c = gave-nothing _ _
+
+pub returns-in-Err-NoMemory-serve_page-clause-read_limit : goal.returns-in-Err-NoMemory-serve_page-clause-read_limit
+returns-in-Err-NoMemory-serve_page-clause-read_limit g c = gave-nothing _ _
+
+pub returns-in-Err-Script-clause-read_limit : goal.returns-in-Err-Script-clause-read_limit
+returns-in-Err-Script-clause-read_limit g c = gave-nothing _ _
+
+pub returns-in-Err-Unbuilt-clause-read_limit : goal.returns-in-Err-Unbuilt-clause-read_limit
+returns-in-Err-Unbuilt-clause-read_limit g c = gave-nothing _ _
+
+pub returns-in-Err-NoMemory-start-clause-read_limit : goal.returns-in-Err-NoMemory-start-clause-read_limit
+returns-in-Err-NoMemory-start-clause-read_limit g c = start-gave _ (g.P.Peer.known c.args.peer.now) (g.P.Peer.known c.start.new.self) _ (texts c.args.program.now) c.in-Err-NoMemory-start.ensures.known
+
+pub returns-in-Err-Failed-start-clause-read_limit : goal.returns-in-Err-Failed-start-clause-read_limit
+returns-in-Err-Failed-start-clause-read_limit g c = start-gave _ (g.P.Peer.known c.args.peer.now) (g.P.Peer.known c.start.new.self) _ (texts c.args.program.now) c.in-Err-Failed-start.ensures.known
+
+pub returns-clause-read_limit : goal.returns-clause-read_limit
+returns-clause-read_limit g c = gave-then 0 _ _ (g.P.Peer.known c.args.peer.now) (g.P.Peer.known c.start.new.self) (g.P.Peer.known c.session.new.peer) (omega arith) (start-gave 0 (g.P.Peer.known c.args.peer.now) (g.P.Peer.known c.start.new.self) _ (texts c.args.program.now) c.in-Ok-start.ensures.known) c.session.ensures.read_limit
+
+pub returns-in_err-status-clause-read_limit : goal.returns-in_err-status-clause-read_limit
+returns-in_err-status-clause-read_limit g c = gave-then 0 _ _ (g.P.Peer.known c.args.peer.now) (g.P.Peer.known c.start.new.self) (g.P.Peer.known c.session.new.peer) (omega arith) (start-gave 0 (g.P.Peer.known c.args.peer.now) (g.P.Peer.known c.start.new.self) _ (texts c.args.program.now) c.in-Ok-start.ensures.known) c.session.ensures.read_limit

@@ -17,6 +17,7 @@ use Rattle.np_host.proofs.PageCuts.{words-nothing}
 use Rattle.np_host.proofs.ShowCuts.{nothing-shown}
 use Rattle.np_end_stops.proofs.Stops.{if-then, on-stop}
 use Rattle.np_end_lines.proofs.EarlyLines.{early-line}
+use Rattle.np_exchange.proofs.Limits.{gave-nothing}
 use Rattle.np_host.proofs.host.serve.Goals as goal
 
 gives : (read : CommandWords) (plain : Vec (String Global)) (command : Option HostCommand) → read ≡ commands.Run plain → GivesCommand (Some read) command → IsRun plain.items command
@@ -86,3 +87,15 @@ returns-in_err-status-in-Some-Show-clause-show_cut g c =
 
 pub returns-in_err-plain-clause-show_cut : goal.returns-in_err-plain-clause-show_cut
 returns-in_err-plain-clause-show_cut g c = on-stop c.from_residual.result _ (nothing-shown (texts c.args.words.now) _ (g.F.Files.contents c.args.files.now) (g.O.Sink.taken c.args.out.now))
+
+pub returns-in_err-plain-clause-read_limit : goal.returns-in_err-plain-clause-read_limit
+returns-in_err-plain-clause-read_limit g c = gave-nothing _ _
+
+pub returns-in-None-clause-read_limit : goal.returns-in-None-clause-read_limit
+returns-in-None-clause-read_limit g c = gave-nothing _ _
+
+pub returns-in_err-status-in-Some-Check-clause-read_limit : goal.returns-in_err-status-in-Some-Check-clause-read_limit
+returns-in_err-status-in-Some-Check-clause-read_limit g c = gave-nothing _ _
+
+pub returns-in_err-status-in-Some-Show-clause-read_limit : goal.returns-in_err-status-in-Some-Show-clause-read_limit
+returns-in_err-status-in-Some-Show-clause-read_limit g c = gave-nothing _ _
