@@ -6,6 +6,3 @@ mod place;
 
 pub use calls::Calls;
 pub use place::Place;
-
-#[cfg(test)]
-mod tests;

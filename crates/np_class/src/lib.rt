@@ -4,6 +4,3 @@
 mod found;
 
 pub use found::{Found, entry};
-
-#[cfg(test)]
-mod tests;

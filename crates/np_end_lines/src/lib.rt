@@ -6,6 +6,3 @@ mod script_lines;
 
 pub use lines::{finish, finish_refused};
 pub use script_lines::{finish_script, finish_unbuilt};
-
-#[cfg(test)]
-mod tests;

@@ -8,6 +8,3 @@ mod turn;
 
 pub use exchange::talk;
 pub use flow::print_journal;
-
-#[cfg(test)]
-mod tests;

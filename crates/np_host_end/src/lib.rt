@@ -14,6 +14,3 @@ mod run;
 pub use host_end::HostEnd;
 pub use np_endpoint::Halt as State;
 pub use np_model::{Page, Refusal, Rule};
-
-#[cfg(test)]
-mod tests;

@@ -12,6 +12,3 @@ pub use idents::{Ident, Idents, same_key_same_place};
 pub use key::{IdKey, Keys};
 pub use op::Op;
 pub use text::IdText;
-
-#[cfg(test)]
-mod tests;

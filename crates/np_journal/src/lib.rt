@@ -13,6 +13,3 @@ pub use journal::Journal;
 pub use line::Line;
 pub use printed::Printed;
 pub use streamed::Streamed;
-
-#[cfg(test)]
-mod tests;

@@ -6,6 +6,3 @@ mod phase;
 
 pub use instances::Instances;
 pub use phase::Phase;
-
-#[cfg(test)]
-mod tests;

@@ -22,6 +22,3 @@ pub use object::{Object, Properties, Property};
 pub use place::Place;
 pub use refusal::{Refusal, Rule};
 pub use step::{PutFile, Step, Steps};
-
-#[cfg(test)]
-mod tests;

@@ -10,6 +10,3 @@ pub use laws::{direct_law, names_law, page_defers_law, plugin_delivers_law};
 pub use page::{Outstanding, OwedLine, PageControl, PeerState, Stage};
 pub use plugin::{PluginControl, PluginStage, QueuedTask};
 pub use stream::{PumpedCall, Span, Spans, Stream, StreamCall, StreamPhase, Streams};
-
-#[cfg(test)]
-mod tests;

@@ -9,6 +9,3 @@ pub use laws::{
     plugin_cut_law, plugin_journal_law, plugin_more_messages_law, plugin_one_rest_law, replies_law,
     rounds_law, serves_law,
 };
-
-#[cfg(test)]
-mod tests;

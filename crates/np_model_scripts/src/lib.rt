@@ -19,8 +19,3 @@ pub use np_script_grammar::{ScriptError, ScriptKind};
 pub use page::served_page;
 pub use plugin::served_plugin;
 pub use serve::{Unserved, serve_page, serve_plugin};
-
-#[cfg(test)]
-mod level_tests;
-#[cfg(test)]
-mod tests;

@@ -12,6 +12,3 @@ pub use plugin_laws::{
     page_few_bytes_law, plugin_begins_law, plugin_comes_to_rest_law, plugin_ends_law,
     plugin_never_refuses_law, plugin_waits_law,
 };
-
-#[cfg(test)]
-mod tests;

@@ -18,6 +18,3 @@ pub use laws::{
 pub use numbering::Numbering;
 pub use object::LiveObject;
 pub use store::Store;
-
-#[cfg(test)]
-mod tests;

@@ -12,6 +12,3 @@ mod serve;
 pub use np_endpoint::Halt as PlugState;
 pub use np_model::{Plugin, Refusal, Rule};
 pub use plug_end::PlugEnd;
-
-#[cfg(test)]
-mod tests;

@@ -20,8 +20,6 @@ mod stdout_sink;
 mod sure_files;
 mod sure_peer;
 mod sure_sink;
-#[cfg(test)]
-mod tests;
 mod traits;
 mod words;
 mod writing;

@@ -20,6 +20,3 @@ pub use imports::Imports;
 pub use incoming::Incoming;
 pub use laws::{exports_count, imports_count, releases_rise};
 pub use np_proxy_release::{Release, Releases};
-
-#[cfg(test)]
-mod tests;

@@ -22,6 +22,3 @@ pub use np_script_grammar::{
 pub use np_script_print::{print_page, print_plugin};
 pub use parse::{parse_page, parse_plugin};
 pub use script::{PageScript, PluginScript};
-
-#[cfg(test)]
-mod tests;

@@ -17,6 +17,3 @@ pub use laws::{
     lines_say_actions, lines_say_commands,
 };
 pub use np_script_grammar::Fields;
-
-#[cfg(test)]
-mod tests;

@@ -16,6 +16,3 @@ pub use laws::{
 };
 pub use np_script_grammar::Fields;
 pub use state::{Building, Unfinished};
-
-#[cfg(test)]
-mod tests;

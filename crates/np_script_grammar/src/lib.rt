@@ -20,6 +20,3 @@ pub use page::{Page, Resource, Resources};
 pub use place::Place;
 pub use plugin::{HandlerDef, Handlers, Plugin, TaskDef, Tasks};
 pub use refusal::{ScriptError, ScriptKind};
-
-#[cfg(test)]
-mod tests;

@@ -9,6 +9,3 @@ mod step;
 
 pub use error::OrderError;
 pub use order::Order;
-
-#[cfg(test)]
-mod tests;

@@ -10,6 +10,3 @@ mod rows;
 mod scripts;
 
 pub use scripts::{print_page, print_plugin};
-
-#[cfg(test)]
-mod tests;

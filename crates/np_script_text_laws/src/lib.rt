@@ -8,6 +8,3 @@ pub use laws::{
     refused_texts_are_no_scripts, skipped_lines_go_on, texts_can_be_completed,
     texts_have_their_lines,
 };
-
-#[cfg(test)]
-mod tests;

@@ -28,6 +28,3 @@ pub use print::{
 pub use table::form_at;
 pub use text::{read_key, read_text};
 pub use value::read_operand;
-
-#[cfg(test)]
-mod tests;

@@ -9,6 +9,3 @@ mod reading;
 
 pub use laws::{faults_are_shown, long_files_are_refused, messages_are_shown};
 pub use listing::show;
-
-#[cfg(test)]
-mod tests;

@@ -28,6 +28,3 @@ pub use stream_mode::StreamMode;
 pub use text::{Text, TextError};
 pub use try_copy::TryCopy;
 pub use value::Value;
-
-#[cfg(test)]
-mod tests;

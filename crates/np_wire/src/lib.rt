@@ -4,8 +4,6 @@
 mod error;
 mod feed;
 mod laws;
-#[cfg(test)]
-mod tests;
 
 pub use error::FeedError;
 pub use feed::Feed;

@@ -12,6 +12,3 @@ mod values;
 
 pub use body::decode_body;
 pub use unread::{Broken, Unread};
-
-#[cfg(test)]
-mod tests;

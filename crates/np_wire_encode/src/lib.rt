@@ -7,6 +7,3 @@ mod messages;
 mod payloads;
 
 pub use messages::encode;
-
-#[cfg(test)]
-mod tests;

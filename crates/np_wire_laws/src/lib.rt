@@ -8,6 +8,3 @@ pub use laws::{
     length_is_refused, messages_fit, no_encoding_begins_another, partial_is_cut_short,
     read_bodies_are_messages, read_is_encoded,
 };
-
-#[cfg(test)]
-mod tests;
