@@ -13,8 +13,8 @@ use Rattle.np_machine.specs.Side.{SideState, at_start}
 use Rattle.np_machine.specs.Messages.{examine, send_draft}
 use Rattle.np_machine.specs.Steps.{run_step}
 use Rattle.np_machine.specs.Plan.{Plan, run_plan, Plans}
-use Rattle.np_machine.specs.Turn.{RemoteTest, is_remote_by_places, is_remote_by_messages, next_message, endpoint_run}
-use Rattle.np_machine.specs.Machine.{Machine, both_start, run, machine_run}
+use Rattle.np_machine.specs.Turn.{RemoteTest, is_remote_by_places, is_remote_by_messages, next_message, turn, endpoint_run}
+use Rattle.np_machine.specs.Machine.{Machine, both_start, page_turn, plugin_turn, run, machine_run}
 use Rattle.np_machine.specs.Rest.{RestsAt, PageRests, PluginRests}
 use Rattle.np_machine.specs.Honest.{IsHonest}
 use Rattle.np_machine.specs.Sound.{IsSound}
@@ -128,3 +128,10 @@ RemoteLaw C D = (P : Plans C) (Q : Plans D) (c : C) (d : D) (order : List Side) 
 -- A plan delivers some of the messages that wait, the one that was examined last first, and leaves the others.
 abbrev pub DeliveredLaw : Type 0 → Type 0
 DeliveredLaw C = (remote : RemoteTest C) (plan : Plan C) (p : SideState C) → (k : ℕ) × ((run_plan remote plan p).undelivered ≡ drop k p.undelivered)
+
+-- At each state of each run a turn of a side is what it is by that side's own count of references: nothing of the other side but its messages is looked at.
+abbrev pub TurnsLaw : Type 0 → Type 0 → Type 0
+TurnsLaw C D = (P : Plans C) (Q : Plans D) (c : C) (d : D) (order : List Side) →
+    let w = run P Q order (both_start c d) in
+    ((page_turn P None w).page ≡ turn is_remote_by_messages P w.plugin.sent w.page)
+    × ((plugin_turn Q None w).plugin ≡ turn is_remote_by_messages Q w.page.sent w.plugin)

@@ -1,4 +1,4 @@
-ghost use Rattle.np_machine.specs.Laws.{EndpointLaw, CutLaw, PluginCutLaw, AloneLaw, PluginAloneLaw, OneRestLaw, MoreMessagesLaw, JournalLaw, RoundsLaw, HonestNamesLaw, DeliveredLaw, SoundLaw, ReleasesLaw, NamesLaw, ExaminedLaw, RemoteLaw};
+ghost use Rattle.np_machine.specs.Laws.{EndpointLaw, CutLaw, PluginCutLaw, AloneLaw, PluginAloneLaw, OneRestLaw, MoreMessagesLaw, JournalLaw, RoundsLaw, HonestNamesLaw, DeliveredLaw, SoundLaw, ReleasesLaw, NamesLaw, ExaminedLaw, RemoteLaw, TurnsLaw};
 
 // Each law holds for any controls C of the page and D of the plug-in, and for any plans over them.
 
@@ -89,4 +89,9 @@ pub fn examined_law<C>()
 /// are remotely referenced.
 pub fn remote_law<C, D>()
     ensures law { RemoteLaw C D }
+{}
+
+/// At each state of each run, what a side's turn does is told by that side and the messages that reach it.
+pub fn turns_law<C, D>()
+    ensures law { TurnsLaw C D }
 {}

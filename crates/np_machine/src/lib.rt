@@ -16,7 +16,7 @@ pub use instance::Instance;
 pub use laws::{
     alone_law, cut_law, delivered_law, endpoint_law, examined_law, honest_names_law, journal_law,
     more_messages_law, names_law, one_rest_law, plugin_alone_law, plugin_cut_law, releases_law,
-    remote_law, rounds_law, sound_law,
+    remote_law, rounds_law, sound_law, turns_law,
 };
 pub use object::{Object, Properties, Property};
 pub use place::Place;

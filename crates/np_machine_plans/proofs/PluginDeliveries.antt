@@ -14,6 +14,7 @@ use Rattle.np_machine_plans.specs.declared.plugin.PluginControl.{PluginControl}
 use Rattle.np_machine_plans.specs.PlanParts.{plan}
 use Rattle.np_machine_plans.specs.RefusedNames.{Breach, breach_of_names}
 use Rattle.np_machine_plans.specs.Verdicts.{Verdict, Delivers, Defers, Breaks, unless_broken, meeting}
+use Rattle.np_machine_plans.specs.View.{view}
 use Rattle.np_machine_plans.specs.PluginMeetings.{plugin_verdict, plugin_accepts}
 use Rattle.np_machine_plans.specs.PluginPlans.{plugin_plans, plugin_start}
 use Rattle.np_machine_plans.proofs.Deliveries.{drop-none}
@@ -21,23 +22,23 @@ use Rattle.np_machine_plans.proofs.Deliveries.{drop-none}
 turn-delivers : DeliveredLaw PluginControl → (plugin : Plugin) (got : List Message) (p : SideState PluginControl) → p.undelivered ≡ [] → (turn is_remote_by_messages (plugin_plans plugin) got p).undelivered ≡ []
 turn-delivers law plugin got p e = at ((plugin_plans plugin).pace p)
   where
-    accepted : (m : Message) → (meets is_remote_by_messages p m (plugin_accepts p m)).undelivered ≡ []
+    accepted : (m : Message) → (meets is_remote_by_messages p m (plugin_accepts p.control m)).undelivered ≡ []
     accepted m =
         let l = law is_remote_by_messages (plan (record p.control { arrived = Some m }) (Sweep ∷ (Deallocate ∷ []))) (run_step (is_remote_by_messages (examine m p)) Deliver (examine m p)) in
         l.1 ∙ ap (λ (w : List Message). drop l.0 w) e ∙ drop-none l.0 [] refl
 
-    delivered : (m : Message) → (o : Option Breach) → (meets is_remote_by_messages p m (unless_broken (plugin_accepts p m) o)).undelivered ≡ []
+    delivered : (m : Message) → (o : Option Breach) → (meets is_remote_by_messages p m (unless_broken (plugin_accepts p.control m) o)).undelivered ≡ []
     delivered m None = accepted m
     delivered m (Some b) = e
 
-    met : (m : Message) → (v : Verdict) → (meets is_remote_by_messages p m (meeting p m v (plugin_accepts p m) (plugin_accepts p m))).undelivered ≡ []
+    met : (m : Message) → (v : Verdict) → (meets is_remote_by_messages p m (meeting p m v (plugin_accepts p.control m) (plugin_accepts p.control m))).undelivered ≡ []
     met m Delivers = delivered m (breach_of_names p m)
     met m Defers = accepted m
     met m (Breaks rule first second) = e
 
     heard : (o : Option Message) → (listens is_remote_by_messages (plugin_plans plugin) p o).undelivered ≡ []
     heard None = e
-    heard (Some m) = met m (plugin_verdict p m)
+    heard (Some m) = met m (plugin_verdict (view p) m)
 
     at : (pace : Pace) → (turn_at is_remote_by_messages (plugin_plans plugin) got p pace).undelivered ≡ []
     at Acts =

@@ -15,7 +15,7 @@ use Rattle.np_machine.specs.declared.place.Place.TheVariants.{Register, Slot, Th
 use Rattle.np_machine.specs.declared.step.Step.TheVariants.{Advance, Await, Constant, Copy, Create, NoteException, Print, SetFlag}
 use Rattle.np_machine.specs.declared.step.Step.{Step}
 use Rattle.np_machine.specs.Plan.{Plan}
-use Rattle.np_machine.specs.Side.{SideState}
+use Rattle.np_machine_plans.specs.View.{SideView}
 use Rattle.np_machine_plans.specs.Calls.{CallSite, call}
 use Rattle.np_machine_plans.specs.Classes.{class_place}
 use Rattle.np_machine_plans.specs.PlanParts.{after_steps, assign, is_same_value, noted_line, operand_step, operand_value, plan}
@@ -47,7 +47,7 @@ create_steps instance r (Some class) has_room =
     if has_room then (SetFlag true ∷ (Create instance class ∷ assign (Register r))) else (SetFlag false ∷ (Constant values.Void ∷ assign (Register r)))
 
 -- a side has room for a further object while fewer than 1,024 are live
-abbrev pub has_room : {C : Type 0} → SideState C → Bool
+abbrev pub has_room : SideView → Bool
 has_room p = nat_lt (length p.objects) 1024
 
 -- an integer of 32 bits
@@ -79,13 +79,13 @@ plain_steps classes instance room flag (actions.OnFalse n) = skip_steps n flag
 plain_steps classes instance room flag action = []
 
 -- the plan of such an action
-abbrev pub plain : {C : Type 0} → BodyRules C → SideState C → Frame → Action → Plan C
+abbrev pub plain : {C : Type 0} → BodyRules C → SideView → Frame → Action → Plan C
 plain rules p frame action = plan rules.counted (plain_steps rules.classes frame.instance (has_room p) frame.progress.flag action)
 
 -- ---- all actions
 
 -- What an action does, once it is counted. `put`, `remove`, `hasm` and `hasp` drop the value of their result.
-abbrev pub action_plan : {C : Type 0} → BodyRules C → SideState C → Frame → List Frame → Action → Plan C
+abbrev pub action_plan : {C : Type 0} → BodyRules C → SideView → Frame → List Frame → Action → Plan C
 action_plan rules p frame below (actions.Set r v) = plain rules p frame (actions.Set r v)
 action_plan rules p frame below (actions.Add r v w) = plan rules.counted (sum_steps r (int_sum (operand_value frame.registers v) (operand_value frame.registers w)))
 action_plan rules p frame below actions.Fail = end_body rules rules.counted p frame below (with_exception frame.progress.exception Failed) frame.caller
@@ -117,6 +117,6 @@ abbrev pub remaining_actions : {C : Type 0} → BodyRules C → Frame → List A
 remaining_actions rules frame = drop frame.progress.done (rules.actions_of frame.body)
 
 -- The newest frame does its next action. A body at its end returns true with Void, and this isn't counted.
-abbrev pub body_plan : {C : Type 0} → BodyRules C → SideState C → Frame → List Frame → List Action → Plan C
+abbrev pub body_plan : {C : Type 0} → BodyRules C → SideView → Frame → List Frame → List Action → Plan C
 body_plan rules p frame below [] = return_operand rules rules.uncounted p frame below (Const values.Void)
 body_plan rules p frame below (action ∷ rest) = after_steps (Advance 1 ∷ []) (action_plan rules p frame below action)

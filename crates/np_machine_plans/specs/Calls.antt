@@ -26,7 +26,7 @@ use Rattle.np_machine.specs.declared.step.Step.{Step}
 use Rattle.np_machine.specs.Objects.{property_at}
 use Rattle.np_machine.specs.Plan.{Plan}
 use Rattle.np_machine.specs.References.{name_of}
-use Rattle.np_machine.specs.Side.{SideState, is_dead}
+use Rattle.np_machine_plans.specs.View.{SideView, is_dead}
 use Rattle.np_machine_plans.specs.Classes.{class_at, has_getter, has_property, keys_of, object_of}
 use Rattle.np_machine_plans.specs.PlanParts.{after_steps, assign, operand_step, operand_steps, operand_value}
 use Rattle.np_machine_plans.specs.Results.{CallResult, Enumerated, Failed, Returned}
@@ -121,7 +121,7 @@ abbrev pub max_depth : ℕ
 max_depth = 64
 
 -- In this order: the target is no object, its instance is dead on the caller's side, the call would be too deep; then its side decides.
-abbrev pub call_of_name : {C : Type 0} → CallSite C → List ClassDef → SideState C → Bool → Operand → Op → List Operand → Option Name → Plan C
+abbrev pub call_of_name : {C : Type 0} → CallSite C → List ClassDef → SideView → Bool → Operand → Op → List Operand → Option Name → Plan C
 call_of_name site classes p task target op arguments None = site.resumed Failed
 call_of_name site classes p task target op arguments (Some name) =
     if is_dead p name.instance then site.resumed Failed
@@ -130,5 +130,5 @@ call_of_name site classes p task target op arguments (Some name) =
     else remote_call site target op arguments task
 
 -- a call of the object that the operand names
-abbrev pub call : {C : Type 0} → CallSite C → List ClassDef → SideState C → Bool → Operand → Op → List Operand → Plan C
+abbrev pub call : {C : Type 0} → CallSite C → List ClassDef → SideView → Bool → Operand → Op → List Operand → Plan C
 call site classes p task target op arguments = call_of_name site classes p task target op arguments (name_of (operand_value site.registers target))

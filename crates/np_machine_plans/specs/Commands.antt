@@ -18,7 +18,7 @@ use Rattle.np_machine.specs.declared.place.Place.TheVariants.{PageRegister}
 use Rattle.np_machine.specs.declared.step.Step.TheVariants.{Begin, Constant, Create, MarkDestroying, Print, TearDown}
 use Rattle.np_machine.specs.Instances.{phase_in, serial_in}
 use Rattle.np_machine.specs.Plan.{Plan}
-use Rattle.np_machine.specs.Side.{SideState}
+use Rattle.np_machine_plans.specs.View.{SideView}
 use Rattle.np_machine_plans.specs.declared.page.Outstanding.TheVariants as calls
 use Rattle.np_machine_plans.specs.declared.page.PageControl.{PageControl}
 use Rattle.np_machine_plans.specs.declared.page.PeerState.TheVariants as peers
@@ -33,7 +33,7 @@ use Rattle.np_machine_plans.specs.PlanParts.{assign, noted_line, operand_step, o
 use Rattle.np_machine_plans.specs.Teardown.{is_live, teardown_once}
 
 -- a command calls an object at depth 0
-abbrev pub command_site : PageControl → SideState PageControl → Continuation → CallSite PageControl
+abbrev pub command_site : PageControl → SideView → Continuation → CallSite PageControl
 command_site c p continuation = record {
   register = PageRegister;
   registers = p.registers;
@@ -57,18 +57,18 @@ abbrev pub create_plan : PageControl → List ℕ → ℕ → List (List ℕ) �
 create_plan c mime mode attributes = create_with (record c { instances = c.instances + 1 }) (c.instances + 1) mime mode attributes c.peer
 
 -- a code other than 0 of NPP_New tears the instance down, unless a body destroyed it meanwhile
-abbrev pub created_plan : PageControl → SideState PageControl → ℕ → NpError → Plan PageControl
+abbrev pub created_plan : PageControl → SideView → ℕ → NpError → Plan PageControl
 created_plan c p i NoError = ends_command c [] (printed.Code NoError)
 created_plan c p i error = ends_command c (teardown_once p i) (printed.Code error)
 
 -- ---- `new` and `turn`
 
 -- the name of the next object of an instance
-abbrev pub next_name : SideState PageControl → ℕ → Name
+abbrev pub next_name : SideView → ℕ → Name
 next_name p i = record { side = p.side; instance = i; serial = serial_in i p.instances + 1 }
 
 -- a new object of a live instance, where its class is declared and the page has room
-abbrev pub new_plan : PageControl → SideState PageControl → ℕ → ℕ → Option ℕ → Bool → Plan PageControl
+abbrev pub new_plan : PageControl → SideView → ℕ → ℕ → Option ℕ → Bool → Plan PageControl
 new_plan c p r i None may = command_fails c r
 new_plan c p r i (Some class) may =
     if may then ends_command c (Create i class ∷ assign (PageRegister r)) (printed_value p (values.Object (next_name p i)))
@@ -82,11 +82,11 @@ turn_plan c peer = command_calls c [] calls.Turn payloads.Turn
 -- ---- all commands
 
 -- a command that wants a live instance, and what it does without one
-abbrev pub if_live : SideState PageControl → ℕ → Plan PageControl → Plan PageControl → Plan PageControl
+abbrev pub if_live : SideView → ℕ → Plan PageControl → Plan PageControl → Plan PageControl
 if_live p i does otherwise = if is_live (phase_in i p.instances) then does else otherwise
 
 -- what a command does, once it is begun (docs/SCRIPTS.md)
-abbrev pub command_plan : Page → PageControl → SideState PageControl → Command → Plan PageControl
+abbrev pub command_plan : Page → PageControl → SideView → Command → Plan PageControl
 command_plan page c p (commands.Create mime mode attributes) = create_plan c mime mode attributes
 command_plan page c p (commands.Destroy i) =
     if_live p i (command_calls c (MarkDestroying i ∷ []) (calls.DestroyCommand i) (payloads.Destroy i)) (ends_command c [] (printed.Code InvalidInstance))
@@ -121,7 +121,7 @@ close_plan c (Some i) = command_calls c (MarkDestroying i ∷ []) (calls.Destroy
 close_plan c None = command_calls c [] calls.Shutdown payloads.Shutdown
 
 -- After the last command the live instances are destroyed in rising order, and then Shutdown is called. With a lost plug-in the page ends at once.
-abbrev pub end_plan : PageControl → SideState PageControl → PeerState → Plan PageControl
+abbrev pub end_plan : PageControl → SideView → PeerState → Plan PageControl
 end_plan c p peers.Lost = plan (record c { stage = stages.Ended }) []
 end_plan c p peer = close_plan c (first_live p.instances)
 
@@ -130,6 +130,6 @@ abbrev pub begun_command : PageControl → List Command → PageControl
 begun_command c rest = record c { commands = rest; number = c.number + 1; actions_done = c.actions_done + 1 }
 
 -- the next command, or the end of the page
-abbrev pub next_command : Page → PageControl → SideState PageControl → List Command → Plan PageControl
+abbrev pub next_command : Page → PageControl → SideView → List Command → Plan PageControl
 next_command page c p [] = end_plan c p c.peer
 next_command page c p (command ∷ rest) = command_plan page (begun_command c rest) p command

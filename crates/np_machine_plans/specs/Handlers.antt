@@ -22,7 +22,7 @@ use Rattle.np_machine.specs.declared.frame.Entry.{Entry}
 use Rattle.np_machine.specs.declared.step.Step.TheVariants.{Constant, DropEach, Enter, Leave, Print}
 use Rattle.np_machine.specs.declared.step.Step.{Step}
 use Rattle.np_machine.specs.Plan.{Plan}
-use Rattle.np_machine.specs.Side.{SideState}
+use Rattle.np_machine_plans.specs.View.{SideView}
 use Rattle.np_machine_plans.specs.declared.plugin.PluginControl.{PluginControl}
 use Rattle.np_machine_plans.specs.PlanParts.{frame_value_count, plan, sending}
 use Rattle.np_machine_plans.specs.Results.{CallResult, Returned, frame_reply, value_count}
@@ -88,7 +88,7 @@ handler_payload handlers.Write size result = payloads.Number (write_number size 
 handler_payload handler size result = payloads.Done
 
 -- NPP_Destroy, and a code other than 0 of NPP_New, tear the instance down before the reply is made
-abbrev pub handler_teardown : SideState PluginControl → ℕ → CallResult → Handler → List Step
+abbrev pub handler_teardown : SideView → ℕ → CallResult → Handler → List Step
 handler_teardown p i result handlers.New = by (new_code result)
   where
     by : NpError → List Step
@@ -98,12 +98,12 @@ handler_teardown p i result handlers.Destroy = teardown_once p i
 handler_teardown p i result handler = []
 
 -- the reply of a handler, after the steps that drop its frame's places and its result's value
-abbrev pub handler_reply : PluginControl → SideState PluginControl → List Step → Depth → ℕ → ℕ → CallResult → Handler → Plan PluginControl
+abbrev pub handler_reply : PluginControl → SideView → List Step → Depth → ℕ → ℕ → CallResult → Handler → Plan PluginControl
 handler_reply c p steps depth i size result handler =
     sending c (steps ++ handler_teardown p i result handler) depth (PlainDraft (handler_payload handler size result))
 
 -- the handler `scriptable` gives the page the object that it returns (npfunctions.h, NPP_GetValue, NPPVpluginScriptableNPObject)
-abbrev pub handler_ends : PluginControl → SideState PluginControl → Depth → ℕ → ℕ → CallResult → Handler → Plan PluginControl
+abbrev pub handler_ends : PluginControl → SideView → Depth → ℕ → ℕ → CallResult → Handler → Plan PluginControl
 handler_ends c p depth i size (Returned (values.Object name)) handlers.Scriptable = frame_reply c depth (Returned (values.Object name))
 handler_ends c p depth i size result handler = handler_reply c p (Leave 0 ∷ (DropEach (frame_value_count + value_count result) ∷ [])) depth i size result handler
 
@@ -138,7 +138,7 @@ handler_body zero (def ∷ defs) = def.body
 handler_body (suc n) (def ∷ defs) = handler_body n defs
 
 -- a handler's frame has no object: `self` is Null
-abbrev pub enter_handler : PluginControl → SideState PluginControl → List Step → Depth → ℕ → Handler → ℕ → List Value → Option ℕ → Plan PluginControl
+abbrev pub enter_handler : PluginControl → SideView → List Step → Depth → ℕ → Handler → ℕ → List Value → Option ℕ → Plan PluginControl
 enter_handler c p steps depth i handler size arguments None = handler_reply c p steps depth i size (Returned values.Void) handler
 enter_handler c p steps depth i handler size arguments (Some n) =
     plan c (steps ++ (Print (HandlerRun i handler) ∷ (Constant values.Null ∷ (constants arguments ++ Enter (length arguments) (entered n) ∷ []))))
@@ -147,5 +147,5 @@ enter_handler c p steps depth i handler size arguments (Some n) =
     entered n = record { instance = i; depth = depth.level; caller = HandlerCall depth handler size; body = bodies.Handler n }
 
 -- A handler runs after these steps, with these arguments; the number is the size of a write. Without it the plug-in replies at once, as if Void had been returned.
-abbrev pub handler_call : Plugin → PluginControl → SideState PluginControl → List Step → Depth → ℕ → Handler → ℕ → List Value → Plan PluginControl
+abbrev pub handler_call : Plugin → PluginControl → SideView → List Step → Depth → ℕ → Handler → ℕ → List Value → Plan PluginControl
 handler_call plugin c p steps depth i handler size arguments = enter_handler c p steps depth i handler size arguments (handler_place handler plugin.handlers)

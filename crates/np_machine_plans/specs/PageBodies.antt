@@ -18,7 +18,7 @@ use Rattle.np_machine.specs.declared.place.Place.TheVariants.{PageRegister}
 use Rattle.np_machine.specs.declared.step.Step.TheVariants.{Await, Constant, DropEach, Leave, MarkDestroying}
 use Rattle.np_machine.specs.Instances.{phase_in}
 use Rattle.np_machine.specs.Plan.{Plan}
-use Rattle.np_machine.specs.Side.{SideState}
+use Rattle.np_machine_plans.specs.View.{SideView}
 use Rattle.np_machine_plans.specs.declared.page.PageControl.{PageControl}
 use Rattle.np_machine_plans.specs.declared.page.Stage.TheVariants as stages
 use Rattle.np_machine_plans.specs.declared.page.Stage.{Stage}
@@ -36,11 +36,11 @@ continuation_of (stages.Running continuation) = continuation
 continuation_of stage = Discard
 
 -- the command's result is there; its line is written once no deferred call is to be served
-abbrev pub line_due : PageControl → SideState PageControl → CallResult → PageControl
+abbrev pub line_due : PageControl → SideView → CallResult → PageControl
 line_due c p result = record c { stage = stages.LineDue (continuation_of c.stage) (printed_result p (continuation_of c.stage) result); arrived = None }
 
 -- a body that the other side called replies; one that the command called assigns to the page's register, and its frame is dropped
-abbrev pub page_body_ends : PageControl → SideState PageControl → Frame → CallResult → Plan PageControl
+abbrev pub page_body_ends : PageControl → SideView → Frame → CallResult → Plan PageControl
 page_body_ends c p frame result = by frame.caller
   where
     by : Caller → Plan PageControl
@@ -49,7 +49,7 @@ page_body_ends c p frame result = by frame.caller
         plan (line_due c p result) (result_steps result ++ (Leave 1 ∷ (continue_steps PageRegister (continuation_of c.stage) ++ DropEach frame_value_count ∷ [])))
 
 -- an unwound frame that the other side called replies false; for one that the command called the command's result is false
-abbrev pub page_body_unwound : PageControl → SideState PageControl → Frame → Plan PageControl
+abbrev pub page_body_unwound : PageControl → SideView → Frame → Plan PageControl
 page_body_unwound c p frame = by frame.caller
   where
     by : Caller → Plan PageControl
@@ -57,7 +57,7 @@ page_body_unwound c p frame = by frame.caller
     by other = plan (line_due c p Failed) (Constant values.Void ∷ continue_steps PageRegister (continuation_of c.stage))
 
 -- `destroy`: code 2 where the instance isn't live, 1 at the greatest depth, and else what NPP_Destroy is answered
-abbrev pub page_own_action : PageControl → SideState PageControl → Frame → Action → Plan PageControl
+abbrev pub page_own_action : PageControl → SideView → Frame → Action → Plan PageControl
 page_own_action c p frame (actions.Destroy r i) =
     if not (is_live (phase_in i p.instances)) then plan c (code_steps r InvalidInstance)
     else if nat_le max_depth frame.depth then plan c (code_steps r Generic)

@@ -16,7 +16,7 @@ use Rattle.np_machine.specs.declared.step.Step.TheVariants.{Constant, Print}
 use Rattle.np_machine.specs.declared.step.Step.{Step}
 use Rattle.np_machine.specs.Plan.{Plan}
 use Rattle.np_machine.specs.References.{name_of}
-use Rattle.np_machine.specs.Side.{SideState}
+use Rattle.np_machine_plans.specs.View.{SideView}
 use Rattle.np_machine_plans.specs.declared.page.Outstanding.{Outstanding}
 use Rattle.np_machine_plans.specs.declared.page.PageControl.{PageControl}
 use Rattle.np_machine_plans.specs.declared.page.PeerState.TheVariants as peers
@@ -66,16 +66,16 @@ command_calls c steps outstanding body = sending (record c { stage = stages.Awai
 -- ---- results of commands
 
 -- a value as a result, with whether it names a dead object
-abbrev pub printed_value : SideState PageControl → Value → Printed
+abbrev pub printed_value : SideView → Value → Printed
 printed_value p v = printed.Yes v (names_dead p (name_of v))
 
 -- a command that drops its value prints Void
-abbrev pub printed_success : SideState PageControl → Continuation → Value → Printed
+abbrev pub printed_success : SideView → Continuation → Value → Printed
 printed_success p Discard v = printed.Yes values.Void false
 printed_success p continuation v = printed_value p v
 
 -- the line of a command whose call has this result
-abbrev pub printed_result : SideState PageControl → Continuation → CallResult → Printed
+abbrev pub printed_result : SideView → Continuation → CallResult → Printed
 printed_result p continuation (Returned v) = printed_success p continuation v
 printed_result p continuation Failed = printed.No
 printed_result p continuation (Threw text) = printed.Threw text
@@ -83,6 +83,6 @@ printed_result p continuation (Enumerated keys) = printed.Ids keys
 printed_result p continuation (ReturnedCode error) = printed.Code error
 
 -- the register gets the result's value, and the line is written
-abbrev pub command_result : PageControl → SideState PageControl → Continuation → CallResult → Plan PageControl
+abbrev pub command_result : PageControl → SideView → Continuation → CallResult → Plan PageControl
 command_result c p continuation result =
     ends_command c (result_steps result ++ continue_steps PageRegister continuation) (printed_result p continuation result)

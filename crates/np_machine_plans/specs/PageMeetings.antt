@@ -13,6 +13,7 @@ use Rattle.np_machine.specs.declared.refusal.Rule.TheVariants as rules
 use Rattle.np_machine.specs.Instances.{phase_in}
 use Rattle.np_machine.specs.Plan.{Accepts, Meeting}
 use Rattle.np_machine.specs.Side.{SideState}
+use Rattle.np_machine_plans.specs.View.{SideView, view}
 use Rattle.np_machine_plans.specs.declared.page.Outstanding.TheVariants as calls
 use Rattle.np_machine_plans.specs.declared.page.Outstanding.{Outstanding}
 use Rattle.np_machine_plans.specs.declared.page.PageControl.{PageControl}
@@ -59,8 +60,8 @@ stage_depths (stages.Awaiting outstanding) = command_depth ∷ []
 stage_depths stage = []
 
 -- the page's open calls, the newest first; none of them is a task's
-abbrev pub page_depths : SideState PageControl → List Depth
-page_depths p = open_depths (λ below. false) false p.frames ++ stage_depths p.control.stage
+abbrev pub page_depths : PageControl → SideView → List Depth
+page_depths c p = open_depths (λ below. false) false p.frames ++ stage_depths c.stage
 
 -- a deferred call waits, or its body is on the stack
 abbrev pub has_deferred : List Message → List Frame → Bool
@@ -70,40 +71,40 @@ has_deferred [] frames = serves_task frames
 -- ---- the verdict
 
 -- it is of a kind that plug-ins send, and its instance was begun
-abbrev pub is_kind_for_page : SideState PageControl → Payload → Bool
+abbrev pub is_kind_for_page : SideView → Payload → Bool
 is_kind_for_page p body = is_from_plugin body && (instance_of body == 0 || not (is_absent (phase_in (instance_of body) p.instances)))
 
 -- a reply has the depth of the newest open call, and answers it
-abbrev pub reply_verdict : SideState PageControl → Message → Verdict
-reply_verdict p m =
-    if is_depth_of_newest m.depth (page_depths p) && fits_page p.control.stage p.frames m.body then Delivers
-    else Breaks rules.Unmatched (depth_byte m.depth) (last_level (page_depths p))
+abbrev pub reply_verdict : PageControl → SideView → Message → Verdict
+reply_verdict c p m =
+    if is_depth_of_newest m.depth (page_depths c p) && fits_page c.stage p.frames m.body then Delivers
+    else Breaks rules.Unmatched (depth_byte m.depth) (last_level (page_depths c p))
 
 -- A call is deeper than the newest open call. A task's call is deferred where one call is open, and refused where one was deferred already.
-abbrev pub call_verdict : SideState PageControl → Message → Verdict
-call_verdict p m =
-    if m.depth.task && length (page_depths p) == 1 then
-    (if has_deferred p.undelivered p.frames then Breaks rules.Held (depth_byte m.depth) p.control.deferred_place else Defers)
-    else if not m.depth.task && (nat_lt 0 (length (page_depths p)) && nat_lt (last_level (page_depths p)) m.depth.level) then Delivers
-    else Breaks rules.Place (depth_byte m.depth) (last_level (page_depths p))
+abbrev pub call_verdict : PageControl → SideView → Message → Verdict
+call_verdict c p m =
+    if m.depth.task && length (page_depths c p) == 1 then
+    (if has_deferred p.undelivered p.frames then Breaks rules.Held (depth_byte m.depth) c.deferred_place else Defers)
+    else if not m.depth.task && (nat_lt 0 (length (page_depths c p)) && nat_lt (last_level (page_depths c p)) m.depth.level) then Delivers
+    else Breaks rules.Place (depth_byte m.depth) (last_level (page_depths c p))
 
 -- the kind is tried first, then the place in the order of calls
-abbrev pub page_verdict : SideState PageControl → Message → Verdict
-page_verdict p m =
+abbrev pub page_verdict : PageControl → SideView → Message → Verdict
+page_verdict c p m =
     if not (is_kind_for_page p m.body) then Breaks rules.WrongKind (kind_of m.body) (instance_of m.body)
-    else if is_reply m.body then reply_verdict p m
-    else call_verdict p m
+    else if is_reply m.body then reply_verdict c p m
+    else call_verdict c p m
 
 -- ---- the meeting
 
 -- the message is delivered, and handled at the next turn
-abbrev pub page_accepts : SideState PageControl → Message → Meeting PageControl
-page_accepts p m = Accepts (plan (record p.control { arrived = Some m }) delivery)
+abbrev pub page_accepts : PageControl → Message → Meeting PageControl
+page_accepts c m = Accepts (plan (record c { arrived = Some m }) delivery)
 
 -- the message stays undelivered, and its place is kept
-abbrev pub page_defers : SideState PageControl → Message → Meeting PageControl
-page_defers p m = Accepts (plan (record p.control { deferred_place = length p.examined }) [])
+abbrev pub page_defers : PageControl → SideView → Meeting PageControl
+page_defers c p = Accepts (plan (record c { deferred_place = p.examined }) [])
 
 -- what a page does with a message that it examines
 abbrev pub page_meeting : SideState PageControl → Message → Meeting PageControl
-page_meeting p m = meeting p m (page_verdict p m) (page_accepts p m) (page_defers p m)
+page_meeting p m = meeting p m (page_verdict p.control (view p) m) (page_accepts p.control m) (page_defers p.control (view p))

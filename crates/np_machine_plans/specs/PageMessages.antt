@@ -16,7 +16,7 @@ use Rattle.np_machine.specs.declared.frame.Continuation.TheVariants.{Assign}
 use Rattle.np_machine.specs.declared.frame.Frame.{Frame}
 use Rattle.np_machine.specs.Instances.{phase_in}
 use Rattle.np_machine.specs.Plan.{Plan}
-use Rattle.np_machine.specs.Side.{SideState}
+use Rattle.np_machine_plans.specs.View.{SideView}
 use Rattle.np_machine_plans.specs.declared.page.Outstanding.TheVariants as calls
 use Rattle.np_machine_plans.specs.declared.page.Outstanding.{Outstanding}
 use Rattle.np_machine_plans.specs.declared.page.PageControl.{PageControl}
@@ -37,7 +37,7 @@ use Rattle.np_machine_plans.specs.Window.{window_reply}
 -- ---- replies
 
 -- a reply to the command's call
-abbrev pub command_reply : PageControl → SideState PageControl → Outstanding → Payload → Plan PageControl
+abbrev pub command_reply : PageControl → SideView → Outstanding → Payload → Plan PageControl
 command_reply c p calls.Hello (payloads.Code IncompatibleVersion) = plan (record (ready c) { peer = peers.Incompatible }) []
 command_reply c p calls.Hello body = plan (ready c) []
 command_reply c p (calls.New i) (payloads.Code error) = created_plan c p i error
@@ -51,7 +51,7 @@ command_reply c p (calls.Streaming pumped) body = stream_reply c p pumped (reply
 command_reply c p outstanding body = plan (ready c) []
 
 -- it goes to the newest frame, or to the command where no frame is on the stack
-abbrev pub page_reply : PageControl → SideState PageControl → Payload → List Frame → Stage → Plan PageControl
+abbrev pub page_reply : PageControl → SideView → Payload → List Frame → Stage → Plan PageControl
 page_reply c p body (frame ∷ below) stage = plan (handled c) (reply_to_frame p (reply_result body) (frame ∷ below))
 page_reply c p body [] (stages.Awaiting outstanding) = command_reply c p outstanding body
 page_reply c p body [] stage = plan (handled c) []
@@ -63,7 +63,7 @@ abbrev pub code_reply : PageControl → Depth → NpError → Plan PageControl
 code_reply c depth error = sending c [] depth (PlainDraft (payloads.Code error))
 
 -- Code 2 where the instance isn't live, one that is being destroyed among them. The control changes where the code is 0.
-abbrev pub request_reply : PageControl → PageControl → SideState PageControl → Depth → ℕ → NpError → Plan PageControl
+abbrev pub request_reply : PageControl → PageControl → SideView → Depth → ℕ → NpError → Plan PageControl
 request_reply old new p depth i error = if is_live (phase_in i p.instances) then code_reply (taken error) depth error else code_reply old depth InvalidInstance
   where
     taken : NpError → PageControl
@@ -71,25 +71,25 @@ request_reply old new p depth i error = if is_live (phase_in i p.instances) then
     taken error = old
 
 -- NPN_GetURLNotify begins a stream with a notification
-abbrev pub url_reply : Page → PageControl → SideState PageControl → Depth → ℕ → List ℕ → ℤ → Plan PageControl
+abbrev pub url_reply : Page → PageControl → SideView → Depth → ℕ → List ℕ → ℤ → Plan PageControl
 url_reply page c p depth i url word =
     let r = resource_place url 0 page.resources in
     request_reply c (with_stream c p i (Some word) r) p depth i (begin_code (streams_of c p) r)
 
 -- NPN_RequestRead
-abbrev pub read_reply : PageControl → SideState PageControl → Depth → ℕ → ℕ → List Range → Plan PageControl
+abbrev pub read_reply : PageControl → SideView → Depth → ℕ → ℕ → List Range → Plan PageControl
 read_reply c p depth i number ranges =
     request_reply c (record c { streams = requested_streams number ranges (streams_of c p) }) p depth i (request_code ranges (open_stream i number (streams_of c p)))
 
 -- NPN_DestroyStream
-abbrev pub end_reply : PageControl → SideState PageControl → Depth → ℕ → ℕ → NpReason → Plan PageControl
+abbrev pub end_reply : PageControl → SideView → Depth → ℕ → ℕ → NpReason → Plan PageControl
 end_reply c p depth i number reason =
     request_reply c (record c { streams = closed_streams number reason (streams_of c p) }) p depth i (close_code (open_stream i number (streams_of c p)))
 
 -- ---- all messages
 
 -- a call of an object, a request, or a reply
-abbrev pub page_message : Page → PageControl → SideState PageControl → Depth → Payload → Plan PageControl
+abbrev pub page_message : Page → PageControl → SideView → Depth → Payload → Plan PageControl
 page_message page c p depth (payloads.Call i serial op arguments) =
     serve_call (handled c) page.classes p depth (record { side = sides.Page; instance = i; serial = serial }) op (length arguments)
 page_message page c p depth (payloads.Window i) = window_reply page (handled c) p depth i

@@ -11,7 +11,8 @@ use Rattle.np_journal.specs.declared.printed.Printed.TheVariants as printed
 use Rattle.np_journal.specs.declared.printed.Printed.{Printed}
 use Rattle.np_machine.specs.declared.frame.Frame.{Frame}
 use Rattle.np_machine.specs.Plan.{Acts, Awaits, HasEnded, Pace, Plan, Plans, Stops}
-use Rattle.np_machine.specs.Side.{SideState, is_dead}
+use Rattle.np_machine.specs.Side.{SideState}
+use Rattle.np_machine_plans.specs.View.{SideView, is_dead, view}
 use Rattle.np_machine_plans.specs.declared.page.Outstanding.TheVariants as calls
 use Rattle.np_machine_plans.specs.declared.page.PageControl.{PageControl}
 use Rattle.np_machine_plans.specs.declared.page.Stage.TheVariants as stages
@@ -54,17 +55,17 @@ pub data PageNext : Type 0 where
   Continues : PageNext
 
 -- a deferred call is served once no call is open, before the page continues
-abbrev pub next_deferred : PageControl → SideState PageControl → List Message → PageNext
+abbrev pub next_deferred : PageControl → SideView → List Message → PageNext
 next_deferred c p [] = Continues
 next_deferred c p (m ∷ ms) = if has_open_call p.frames c.stage then Continues else Serves m
 
 -- a body without actions left ends; else a deferred call comes first
-abbrev pub next_in_body : PageControl → SideState PageControl → Frame → List Frame → List Action → PageNext
+abbrev pub next_in_body : PageControl → SideView → Frame → List Frame → List Action → PageNext
 next_in_body c p frame below [] = EndsBody frame below
 next_in_body c p frame below (action ∷ rest) = next_deferred c p p.undelivered
 
 -- first a dead frame is unwound, then a finished body ends, then a deferred call is served
-abbrev pub page_next : Page → PageControl → SideState PageControl → List Frame → PageNext
+abbrev pub page_next : Page → PageControl → SideView → List Frame → PageNext
 page_next page c p [] = next_deferred c p p.undelivered
 page_next page c p (frame ∷ below) =
     if is_dead p frame.instance then Unwinds frame below else next_in_body c p frame below (remaining_actions (page_rules page c) frame)
@@ -87,25 +88,25 @@ has_turn (suc left) None = false
 has_turn (suc left) (Some next) = true
 
 -- what the page would do next counts as an action
-abbrev pub is_counted : PageControl → SideState PageControl → Stage → List Frame → Bool
+abbrev pub is_counted : PageControl → SideView → Stage → List Frame → Bool
 is_counted c p stage (frame ∷ below) = true
 is_counted c p stages.Ready [] = has_command c.commands
 is_counted c p (stages.Pumping left answered) [] = has_turn left (next_stream_call (streams_of c p))
 is_counted c p stage [] = false
 
 -- the budget is tested only before what counts
-abbrev pub is_exhausted : PageControl → SideState PageControl → Bool
+abbrev pub is_exhausted : PageControl → SideView → Bool
 is_exhausted c p = is_counted c p c.stage p.frames && c.actions_done == max_actions
 
 -- ---- the plan
 
 -- the object that a line names may have died since its result was there
-abbrev pub result_now : SideState PageControl → Printed → Printed
+abbrev pub result_now : SideView → Printed → Printed
 result_now p (printed.Yes v dead) = printed_value p v
 result_now p result = result
 
 -- what is next where no frame is on the stack
-abbrev pub stage_plan : Page → PageControl → SideState PageControl → Stage → Plan PageControl
+abbrev pub stage_plan : Page → PageControl → SideView → Stage → Plan PageControl
 stage_plan page c p stages.Start = command_calls c [] calls.Hello (payloads.Hello 1 page.major page.minor)
 stage_plan page c p stages.Ready = next_command page c p c.commands
 stage_plan page c p (stages.LineDue continuation result) = ends_command c [] (result_now p result)
@@ -115,36 +116,36 @@ stage_plan page c p (stages.Unanswered owed) = lost_plan c owed
 stage_plan page c p stage = plan c []
 
 -- the next action of the newest frame, or what the command does next
-abbrev pub continue_plan : Page → PageControl → SideState PageControl → List Frame → Plan PageControl
+abbrev pub continue_plan : Page → PageControl → SideView → List Frame → Plan PageControl
 continue_plan page c p [] = stage_plan page c p c.stage
 continue_plan page c p (frame ∷ below) = body_plan (page_rules page c) p frame below (remaining_actions (page_rules page c) frame)
 
 -- what is next, unless the budget is exhausted
-abbrev pub budget_plan : Page → PageControl → SideState PageControl → Plan PageControl
+abbrev pub budget_plan : Page → PageControl → SideView → Plan PageControl
 budget_plan page c p = if is_exhausted c p then plan (record c { stage = stages.Exhausted }) [] else continue_plan page c p p.frames
 
 -- the plan of what comes next
-abbrev pub next_plan : Page → PageControl → SideState PageControl → PageNext → Plan PageControl
+abbrev pub next_plan : Page → PageControl → SideView → PageNext → Plan PageControl
 next_plan page c p (Unwinds frame below) = unwind (page_rules page c) p frame below
 next_plan page c p (EndsBody frame below) = return_operand (page_rules page c) c p frame below (Const values.Void)
 next_plan page c p (Serves m) = plan (record c { arrived = Some m }) delivery
 next_plan page c p Continues = budget_plan page c p
 
 -- what arrived is handled first
-abbrev pub page_plan : Page → PageControl → SideState PageControl → Option Message → Plan PageControl
+abbrev pub page_plan : Page → PageControl → SideView → Option Message → Plan PageControl
 page_plan page c p (Some m) = page_message page c p m.depth m.body
 page_plan page c p None = next_plan page c p (page_next page c p p.frames)
 
 -- ---- the pace
 
 -- the page acts, or refuses the deferred call
-abbrev pub pace_unless_broken : SideState PageControl → Option Breach → Pace
-pace_unless_broken p None = Acts
-pace_unless_broken p (Some b) = Stops (record { place = p.control.deferred_place; rule = b.rule; first = b.first; second = b.second })
+abbrev pub pace_unless_broken : PageControl → Option Breach → Pace
+pace_unless_broken c None = Acts
+pace_unless_broken c (Some b) = Stops (record { place = c.deferred_place; rule = b.rule; first = b.first; second = b.second })
 
 -- a deferred call whose names or releases break a rule is refused when it is served
 abbrev pub next_pace : SideState PageControl → PageNext → Pace
-next_pace p (Serves m) = pace_unless_broken p (breach_of_names p m)
+next_pace p (Serves m) = pace_unless_broken p.control (breach_of_names p m)
 next_pace p next = Acts
 
 -- A page awaits a message where its newest frame waits for a result, or its command for a reply. It has ended with its last command, or with its budget.
@@ -152,9 +153,9 @@ abbrev pub page_pace : Page → SideState PageControl → Stage → List Frame �
 page_pace page p stages.Exhausted frames arrived = HasEnded
 page_pace page p stages.Ended frames arrived = HasEnded
 page_pace page p stage frames (Some m) = Acts
-page_pace page p stage (frame ∷ below) None = if awaits_result frame.progress.awaits then Awaits else next_pace p (page_next page p.control p (frame ∷ below))
+page_pace page p stage (frame ∷ below) None = if awaits_result frame.progress.awaits then Awaits else next_pace p (page_next page p.control (view p) (frame ∷ below))
 page_pace page p (stages.Awaiting outstanding) [] None = Awaits
-page_pace page p stage [] None = next_pace p (page_next page p.control p [])
+page_pace page p stage [] None = next_pace p (page_next page p.control (view p) [])
 
 -- ---- a page
 
@@ -162,6 +163,6 @@ page_pace page p stage [] None = next_pace p (page_next page p.control p [])
 abbrev pub page_plans : Page → Plans PageControl
 page_plans page = record {
   pace = λ p. page_pace page p p.control.stage p.frames p.control.arrived;
-  go = λ p. page_plan page p.control p p.control.arrived;
+  go = λ p. page_plan page p.control (view p) p.control.arrived;
   meet = λ p m. page_meeting p m;
 }

@@ -14,7 +14,7 @@ use Rattle.np_machine.specs.declared.step.PutFile.{PutFile}
 use Rattle.np_machine.specs.declared.step.Step.TheVariants.{File, Print}
 use Rattle.np_machine.specs.Instances.{phase_in}
 use Rattle.np_machine.specs.Plan.{Plan}
-use Rattle.np_machine.specs.Side.{SideState, is_dead}
+use Rattle.np_machine_plans.specs.View.{SideView, is_dead}
 use Rattle.np_machine_plans.specs.declared.page.Outstanding.TheVariants as calls
 use Rattle.np_machine_plans.specs.declared.page.PageControl.{PageControl}
 use Rattle.np_machine_plans.specs.declared.page.Stage.TheVariants as stages
@@ -30,13 +30,13 @@ use Rattle.np_machine_plans.specs.Streams.{has_stream, live_streams, next_stream
 use Rattle.np_machine_plans.specs.Teardown.{is_live}
 
 -- the streams of instances that aren't dead on the page
-abbrev pub streams_of : PageControl → SideState PageControl → List Stream
+abbrev pub streams_of : PageControl → SideView → List Stream
 streams_of c p = live_streams (λ i. is_dead p i) c.streams
 
 -- ---- to begin a stream
 
 -- the control with the new stream, which has the next number; it is as before where none can begin
-abbrev pub with_stream : PageControl → SideState PageControl → ℕ → Option ℤ → Option (ℕ × Resource) → PageControl
+abbrev pub with_stream : PageControl → SideView → ℕ → Option ℤ → Option (ℕ × Resource) → PageControl
 with_stream c p i notify r =
     record c { streams = begun_streams (c.stream_count + 1) i notify (streams_of c p) r; stream_count = c.stream_count + begun (begin_code (streams_of c p) r) }
   where
@@ -45,7 +45,7 @@ with_stream c p i notify r =
     begun error = 0
 
 -- `open` begins a stream that nobody is notified of
-abbrev pub open_plan : Page → PageControl → SideState PageControl → ℕ → List ℕ → Plan PageControl
+abbrev pub open_plan : Page → PageControl → SideView → ℕ → List ℕ → Plan PageControl
 open_plan page c p i url =
     let r = resource_place url 0 page.resources in
     if is_live (phase_in i p.instances) then ends_command (with_stream c p i None r) [] (printed.Code (begin_code (streams_of c p) r))
@@ -95,7 +95,7 @@ pump_next page c left answered None = ends_command c [] (printed.Pumped answered
 pump_next page c left answered (Some next) = pump_call page c (record { stream = next.0; call = next.1; left = left; answered = answered }) next.1
 
 -- `pump` ends with its last turn
-abbrev pub pump_plan : Page → PageControl → SideState PageControl → ℕ → ℕ → Plan PageControl
+abbrev pub pump_plan : Page → PageControl → SideView → ℕ → ℕ → Plan PageControl
 pump_plan page c p zero answered = ends_command c [] (printed.Pumped answered)
 pump_plan page c p (suc left) answered = pump_next page c left answered (next_stream_call (streams_of c p))
 
@@ -122,7 +122,7 @@ reply_number (payloads.Number n) = n
 reply_number body = pos 0
 
 -- The stream moves on, and its line is written. A reply to a stream that has gone with its instance changes nothing and has no line.
-abbrev pub stream_reply : PageControl → SideState PageControl → PumpedCall → ℤ → Plan PageControl
+abbrev pub stream_reply : PageControl → SideView → PumpedCall → ℤ → Plan PageControl
 stream_reply c p pumped n =
     if has_stream pumped.stream.number (streams_of c p) then
     plan (record pumping { streams = streams_after pumped.stream.number pumped.call n (streams_of c p) })

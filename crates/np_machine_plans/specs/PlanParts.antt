@@ -20,7 +20,7 @@ use Rattle.np_machine.specs.declared.step.Step.TheVariants.{Constant, Copy, Deal
 use Rattle.np_machine.specs.declared.step.Step.{Step}
 use Rattle.np_machine.specs.Plan.{Plan}
 use Rattle.np_machine.specs.References.{is_same_name, name_of}
-use Rattle.np_machine.specs.Side.{SideState, is_dead}
+use Rattle.np_machine_plans.specs.View.{SideView, is_dead}
 use Rattle.np_machine.specs.Values.{read_at}
 
 -- a plan that sends no message
@@ -83,12 +83,12 @@ is_same_value (values.Object a) (values.Object b) = is_same_name a b
 is_same_value a b = false
 
 -- the value names an object whose instance is dead on this side, as a journal prints it
-abbrev pub names_dead : {C : Type 0} → SideState C → Option Name → Bool
+abbrev pub names_dead : SideView → Option Name → Bool
 names_dead p None = false
 names_dead p (Some name) = is_dead p name.instance
 
 -- the line of a noted value
-abbrev pub noted_line : {C : Type 0} → SideState C → Value → Line
+abbrev pub noted_line : SideView → Value → Line
 noted_line p v = Noted v (names_dead p (name_of v))
 
 -- the number of an error, in a register; the flag is whether it is 0 (npapi.h, NPError)

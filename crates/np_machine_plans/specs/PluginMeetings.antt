@@ -1,5 +1,5 @@
 -- Which messages a plug-in accepts or refuses: `wrong-kind`, `unmatched` and `place`. (This project's own.)
-use Rattle.std.specs.Prelude.{Bool, List, Some, [], false, if◌then◌else◌, length, nat_lt, not, true, ◌&&◌, ◌+◌, ◌==◌, ◌||◌, ◌∷◌}
+use Rattle.std.specs.Prelude.{Bool, List, Some, [], false, if◌then◌else◌, length, nat_lt, not, suc, true, zero, ℕ, ◌&&◌, ◌+◌, ◌==◌, ◌||◌, ◌∷◌}
 use Rattle.np_message.specs.declared.depth.Depth.{Depth}
 use Rattle.np_message.specs.declared.payload.Payload.TheVariants as payloads
 use Rattle.np_message.specs.declared.payload.Payload.{Payload}
@@ -10,7 +10,8 @@ use Rattle.np_machine.specs.declared.frame.Frame.{Frame}
 use Rattle.np_machine.specs.declared.refusal.Rule.TheVariants as rules
 use Rattle.np_machine.specs.Instances.{phase_in}
 use Rattle.np_machine.specs.Plan.{Accepts, Meeting}
-use Rattle.np_machine.specs.Side.{SideState, is_dead}
+use Rattle.np_machine.specs.Side.{SideState}
+use Rattle.np_machine_plans.specs.View.{SideView, is_dead, view}
 use Rattle.np_machine_plans.specs.declared.plugin.PluginControl.{PluginControl}
 use Rattle.np_machine_plans.specs.FittingReplies.{fits_awaited}
 use Rattle.np_machine_plans.specs.OpenCalls.{is_depth_of_newest, last_level, open_depths, serves_call}
@@ -23,10 +24,10 @@ abbrev pub is_hello : Payload → Bool
 is_hello (payloads.Hello version major minor) = true
 is_hello body = false
 
--- the first message is Hello, and no later one is
-abbrev pub fits_hello : Bool → List Message → Bool
-fits_hello hello [] = hello
-fits_hello hello (m ∷ ms) = not hello
+-- the first message is Hello, and no later one is, where so many were examined before
+abbrev pub fits_hello : Bool → ℕ → Bool
+fits_hello hello zero = hello
+fits_hello hello (suc n) = not hello
 
 -- a call of an instance that wasn't torn down
 abbrev pub wants_living : Payload → Bool
@@ -41,7 +42,7 @@ wants_living (payloads.Notify i url reason word) = true
 wants_living body = false
 
 -- NPP_New is of the next instance; other messages are of an instance that was begun
-abbrev pub fits_instance : SideState PluginControl → Payload → Bool
+abbrev pub fits_instance : SideView → Payload → Bool
 fits_instance p (payloads.New i mode mime attributes) = i == length p.instances + 1
 fits_instance p body =
     (instance_of body == 0 || not (is_absent (phase_in (instance_of body) p.instances))) && not (wants_living body && is_dead p (instance_of body))
@@ -49,7 +50,7 @@ fits_instance p body =
 -- ---- open calls
 
 -- the plug-in's open calls, the newest first; those that it makes while it serves no call of the page have a task's mark
-abbrev pub plugin_depths : SideState PluginControl → List Depth
+abbrev pub plugin_depths : SideView → List Depth
 plugin_depths p = open_depths (λ frames. not (serves_call frames)) false p.frames
 
 -- those that have no task's mark
@@ -70,11 +71,11 @@ fits_plugin (frame ∷ below) body = fits_awaited frame.progress.awaits body
 -- ---- the verdict
 
 -- it is of a kind that pages send, it may come now, and its instance may be named
-abbrev pub is_kind_for_plugin : SideState PluginControl → Payload → Bool
+abbrev pub is_kind_for_plugin : SideView → Payload → Bool
 is_kind_for_plugin p body = is_from_page body && (fits_hello (is_hello body) p.examined && fits_instance p body)
 
 -- the kind is tried first, then the place in the order of calls
-abbrev pub plugin_verdict : SideState PluginControl → Message → Verdict
+abbrev pub plugin_verdict : SideView → Message → Verdict
 plugin_verdict p m =
     if not (is_kind_for_plugin p m.body) then Breaks rules.WrongKind (kind_of m.body) (instance_of m.body)
     else if is_reply m.body then
@@ -85,9 +86,9 @@ plugin_verdict p m =
 -- ---- the meeting
 
 -- the message is delivered, and handled at the next turn
-abbrev pub plugin_accepts : SideState PluginControl → Message → Meeting PluginControl
-plugin_accepts p m = Accepts (plan (record p.control { arrived = Some m }) delivery)
+abbrev pub plugin_accepts : PluginControl → Message → Meeting PluginControl
+plugin_accepts c m = Accepts (plan (record c { arrived = Some m }) delivery)
 
 -- a plug-in defers no call
 abbrev pub plugin_meeting : SideState PluginControl → Message → Meeting PluginControl
-plugin_meeting p m = meeting p m (plugin_verdict p m) (plugin_accepts p m) (plugin_accepts p m)
+plugin_meeting p m = meeting p m (plugin_verdict (view p) m) (plugin_accepts p.control m) (plugin_accepts p.control m)

@@ -15,7 +15,7 @@ use Rattle.np_message.specs.declared.payload.Payload.{Payload}
 use Rattle.np_machine.specs.declared.draft.Draft.TheVariants.{PlainDraft}
 use Rattle.np_machine.specs.declared.step.Step.TheVariants.{Begin, MarkDestroying}
 use Rattle.np_machine.specs.Plan.{Plan}
-use Rattle.np_machine.specs.Side.{SideState}
+use Rattle.np_machine_plans.specs.View.{SideView}
 use Rattle.np_machine_plans.specs.declared.plugin.PluginControl.{PluginControl}
 use Rattle.np_machine_plans.specs.declared.plugin.PluginStage.TheVariants as plugin_stages
 use Rattle.np_machine_plans.specs.declared.plugin.PluginStage.{PluginStage}
@@ -43,7 +43,7 @@ abbrev pub bytes_value : List ℕ → Value
 bytes_value bytes = if is_text bytes then values.Text bytes else values.Void
 
 -- the calls run handlers; Hello, Turn and Shutdown are answered at once
-abbrev pub plugin_message : Plugin → PluginControl → SideState PluginControl → Depth → Payload → Plan PluginControl
+abbrev pub plugin_message : Plugin → PluginControl → SideView → Depth → Payload → Plan PluginControl
 plugin_message plugin c p depth (payloads.Hello version major minor) = sending c [] depth (PlainDraft (payloads.Code (hello_code plugin major)))
 plugin_message plugin c p depth (payloads.New i mode mime attributes) =
     handler_call plugin c p (Begin i ∷ []) depth i handlers.New 0 (values.Text mime ∷ (values.Int (pos mode) ∷ text_values attributes))

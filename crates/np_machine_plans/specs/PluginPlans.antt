@@ -13,7 +13,7 @@ use Rattle.np_machine.specs.declared.frame.Continuation.{Continuation}
 use Rattle.np_machine.specs.declared.frame.Frame.{Frame}
 use Rattle.np_machine.specs.declared.step.Step.TheVariants.{DropEach, Leave}
 use Rattle.np_machine.specs.Plan.{Acts, Awaits, HasEnded, Pace, Plan, Plans}
-use Rattle.np_machine.specs.Side.{SideState, is_dead}
+use Rattle.np_machine_plans.specs.View.{SideView, is_dead, view}
 use Rattle.np_machine_plans.specs.declared.plugin.PluginControl.{PluginControl}
 use Rattle.np_machine_plans.specs.declared.plugin.PluginStage.TheVariants as plugin_stages
 use Rattle.np_machine_plans.specs.declared.plugin.PluginStage.{PluginStage}
@@ -38,7 +38,7 @@ plugin_start = record { stage = plugin_stages.Serving; arrived = None; queue = [
 -- ---- bodies
 
 -- a body that the page called replies; a task's result is dropped after its places
-abbrev pub plugin_body_ends : PluginControl → SideState PluginControl → Frame → CallResult → Plan PluginControl
+abbrev pub plugin_body_ends : PluginControl → SideView → Frame → CallResult → Plan PluginControl
 plugin_body_ends c p frame result = by frame.caller
   where
     by : Caller → Plan PluginControl
@@ -47,7 +47,7 @@ plugin_body_ends c p frame result = by frame.caller
     by other = plan c (Leave 0 ∷ (DropEach (frame_value_count + value_count result) ∷ []))
 
 -- an unwound frame that the page called replies false, and a handler's frame what its handler replies for a failure
-abbrev pub plugin_body_unwound : PluginControl → SideState PluginControl → Frame → Plan PluginControl
+abbrev pub plugin_body_unwound : PluginControl → SideView → Frame → Plan PluginControl
 plugin_body_unwound c p frame = by frame.caller
   where
     by : Caller → Plan PluginControl
@@ -81,21 +81,21 @@ plugin_rules plugin c frames = record {
 -- ---- the plan
 
 -- a side does at most 1,000,000 actions; the end of a body isn't counted
-abbrev pub plugin_budget_plan : Plugin → PluginControl → SideState PluginControl → Frame → List Frame → List Action → Plan PluginControl
+abbrev pub plugin_budget_plan : Plugin → PluginControl → SideView → Frame → List Frame → List Action → Plan PluginControl
 plugin_budget_plan plugin c p frame below [] = body_plan (plugin_rules plugin c (frame ∷ below)) p frame below []
 plugin_budget_plan plugin c p frame below (action ∷ rest) =
     if c.actions_done == max_actions then plan (record c { stage = plugin_stages.Exhausted }) []
     else body_plan (plugin_rules plugin c (frame ∷ below)) p frame below (action ∷ rest)
 
 -- a frame of a dead instance is unwound, or the newest frame does its next action, or the front task begins
-abbrev pub plugin_continue_plan : Plugin → PluginControl → SideState PluginControl → List Frame → Plan PluginControl
+abbrev pub plugin_continue_plan : Plugin → PluginControl → SideView → List Frame → Plan PluginControl
 plugin_continue_plan plugin c p [] = next_task plugin c (tasks_of c p)
 plugin_continue_plan plugin c p (frame ∷ below) =
     if is_dead p frame.instance then unwind (plugin_rules plugin c (frame ∷ below)) p frame below
     else plugin_budget_plan plugin c p frame below (remaining_actions (plugin_rules plugin c (frame ∷ below)) frame)
 
 -- what arrived is handled first
-abbrev pub plugin_plan : Plugin → PluginControl → SideState PluginControl → Option Message → Plan PluginControl
+abbrev pub plugin_plan : Plugin → PluginControl → SideView → Option Message → Plan PluginControl
 plugin_plan plugin c p (Some m) = plugin_message plugin (record c { arrived = None; stage = stage_after m.body }) p m.depth m.body
 plugin_plan plugin c p None = plugin_continue_plan plugin c p p.frames
 
@@ -112,20 +112,20 @@ pace_of_frame None = Acts
 pace_of_frame (Some continuation) = Awaits
 
 -- it awaits a message where its newest frame waits, or it has neither a frame nor a task
-abbrev pub plugin_pace : SideState PluginControl → PluginStage → List Frame → Option Message → Pace
-plugin_pace p plugin_stages.Exhausted frames arrived = HasEnded
-plugin_pace p plugin_stages.Ended frames arrived = HasEnded
-plugin_pace p (plugin_stages.Exited n) frames arrived = HasEnded
-plugin_pace p plugin_stages.Serving frames (Some m) = Acts
-plugin_pace p plugin_stages.Serving (frame ∷ below) None = pace_of_frame frame.progress.awaits
-plugin_pace p plugin_stages.Serving [] None = pace_of_tasks (tasks_of p.control p)
+abbrev pub plugin_pace : PluginControl → SideView → PluginStage → List Frame → Option Message → Pace
+plugin_pace c p plugin_stages.Exhausted frames arrived = HasEnded
+plugin_pace c p plugin_stages.Ended frames arrived = HasEnded
+plugin_pace c p (plugin_stages.Exited n) frames arrived = HasEnded
+plugin_pace c p plugin_stages.Serving frames (Some m) = Acts
+plugin_pace c p plugin_stages.Serving (frame ∷ below) None = pace_of_frame frame.progress.awaits
+plugin_pace c p plugin_stages.Serving [] None = pace_of_tasks (tasks_of c p)
 
 -- ---- a plug-in
 
 -- the plans of this plug-in
 abbrev pub plugin_plans : Plugin → Plans PluginControl
 plugin_plans plugin = record {
-  pace = λ p. plugin_pace p p.control.stage p.frames p.control.arrived;
-  go = λ p. plugin_plan plugin p.control p p.control.arrived;
+  pace = λ p. plugin_pace p.control (view p) p.control.stage p.frames p.control.arrived;
+  go = λ p. plugin_plan plugin p.control (view p) p.control.arrived;
   meet = λ p m. plugin_meeting p m;
 }

@@ -18,7 +18,7 @@ use Rattle.np_machine.specs.declared.frame.Frame.{Frame}
 use Rattle.np_machine.specs.declared.place.Place.TheVariants.{Register}
 use Rattle.np_machine.specs.declared.step.Step.TheVariants.{Await, Constant, SetFlag}
 use Rattle.np_machine.specs.Plan.{Plan}
-use Rattle.np_machine.specs.Side.{SideState}
+use Rattle.np_machine_plans.specs.View.{SideView}
 use Rattle.np_machine_plans.specs.declared.plugin.PluginControl.{PluginControl}
 use Rattle.np_machine_plans.specs.declared.plugin.PluginStage.TheVariants as plugin_stages
 use Rattle.np_machine_plans.specs.Calls.{max_depth}
@@ -68,7 +68,7 @@ end_request frame reason None = None
 end_request frame reason (Some n) = Some (payloads.EndStream frame.instance n reason)
 
 -- the actions of plug-ins alone; `exit` ends the program at once
-abbrev pub plugin_own_action : Plugin → PluginControl → Bool → SideState PluginControl → Frame → Action → Plan PluginControl
+abbrev pub plugin_own_action : Plugin → PluginControl → Bool → SideView → Frame → Action → Plan PluginControl
 plugin_own_action plugin c task p frame (actions.Window r) = window_request c task frame r
 plugin_own_action plugin c task p frame (actions.GetUrl r v word) = code_request c task frame r (url_request frame word (operand_value frame.registers v))
 plugin_own_action plugin c task p frame (actions.RequestRead r v ranges) =

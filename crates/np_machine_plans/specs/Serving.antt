@@ -19,7 +19,7 @@ use Rattle.np_machine.specs.declared.place.Place.TheVariants.{PropertyOf, Regist
 use Rattle.np_machine.specs.declared.step.Step.TheVariants.{Constant, DropEach, Enter, MoveAfter, Print}
 use Rattle.np_machine.specs.declared.step.Step.{Step}
 use Rattle.np_machine.specs.Plan.{Plan}
-use Rattle.np_machine.specs.Side.{SideState, is_dead}
+use Rattle.np_machine_plans.specs.View.{SideView, is_dead}
 use Rattle.np_machine_plans.specs.Calls.{CallSite, may_set, stored_call}
 use Rattle.np_machine_plans.specs.Classes.{class_at, object_of}
 use Rattle.np_machine_plans.specs.PlanParts.{after_steps, assign, plan}
@@ -77,5 +77,5 @@ serve_object c classes depth op arguments dead (Some o) =
     if dead then serve_reply c depth (arguments + 1) Failed else serve_class c depth o op arguments (class_at o.class classes)
 
 -- a call of the object of this name, with so many arguments in flight
-abbrev pub serve_call : {C : Type 0} → C → List ClassDef → SideState C → Depth → Name → Op → ℕ → Plan C
+abbrev pub serve_call : {C : Type 0} → C → List ClassDef → SideView → Depth → Name → Op → ℕ → Plan C
 serve_call c classes p depth name op arguments = serve_object c classes depth op arguments (is_dead p name.instance) (object_of name p.objects)

@@ -12,7 +12,7 @@ use Rattle.np_machine.specs.declared.frame.Entry.{Entry}
 use Rattle.np_machine.specs.declared.frame.Frame.{Frame}
 use Rattle.np_machine.specs.declared.step.Step.TheVariants.{Constant, Enter, Print, SetFlag}
 use Rattle.np_machine.specs.Plan.{Plan}
-use Rattle.np_machine.specs.Side.{SideState, is_dead}
+use Rattle.np_machine_plans.specs.View.{SideView, is_dead}
 use Rattle.np_machine_plans.specs.declared.plugin.PluginControl.{PluginControl}
 use Rattle.np_machine_plans.specs.declared.plugin.QueuedTask.{QueuedTask}
 use Rattle.np_machine_plans.specs.PlanParts.{plan}
@@ -40,7 +40,7 @@ live_tasks dead [] = []
 live_tasks dead (t ∷ ts) = if dead t.instance then live_tasks dead ts else (t ∷ live_tasks dead ts)
 
 -- the queue without the tasks of dead instances
-abbrev pub tasks_of : PluginControl → SideState PluginControl → List QueuedTask
+abbrev pub tasks_of : PluginControl → SideView → List QueuedTask
 tasks_of c p = live_tasks (λ i. is_dead p i) c.queue
 
 -- a task's frame has depth 0, no caller and no object

@@ -6,7 +6,7 @@ use Rattle.np_life.specs.declared.phase.Phase.{Phase}
 use Rattle.np_machine.specs.declared.place.Place.TheVariants.{Slot}
 use Rattle.np_machine.specs.declared.step.Step.TheVariants.{Constant, Deallocate, Drop, Put, TearDown}
 use Rattle.np_machine.specs.declared.step.Step.{Step}
-use Rattle.np_machine.specs.Side.{SideState, is_dead}
+use Rattle.np_machine_plans.specs.View.{SideView, is_dead}
 
 -- slots are set to Void, so many from this one on; what they held is dropped
 abbrev pub empty_slots : ℕ → ℕ → ℕ → List Step
@@ -18,7 +18,7 @@ abbrev pub teardown_steps : ℕ → List Step
 teardown_steps instance = TearDown instance ∷ (empty_slots instance 9 0 ++ Deallocate ∷ [])
 
 -- an instance is torn down at most once on each side
-abbrev pub teardown_once : {C : Type 0} → SideState C → ℕ → List Step
+abbrev pub teardown_once : SideView → ℕ → List Step
 teardown_once p instance = if is_dead p instance then [] else teardown_steps instance
 
 -- NPP_New and the requests of an instance need it to be live

@@ -13,7 +13,7 @@ use Rattle.np_machine.specs.declared.step.Step.TheVariants.{Copy, Create, DropEa
 use Rattle.np_machine.specs.Instances.{phase_in, slots_in}
 use Rattle.np_machine.specs.Plan.{Plan}
 use Rattle.np_machine.specs.References.{name_of}
-use Rattle.np_machine.specs.Side.{SideState}
+use Rattle.np_machine_plans.specs.View.{SideView}
 use Rattle.np_machine.specs.Values.{read_at}
 use Rattle.np_machine_plans.specs.declared.page.PageControl.{PageControl}
 use Rattle.np_machine_plans.specs.Actions.{has_room}
@@ -32,7 +32,7 @@ make_window c depth i (Some class) room =
     else sending c [] depth (PlainDraft payloads.False)
 
 -- the window object that is there, or a new one
-abbrev pub window_or_new : Page → PageControl → SideState PageControl → Depth → ℕ → Option Name → Plan PageControl
+abbrev pub window_or_new : Page → PageControl → SideView → Depth → ℕ → Option Name → Plan PageControl
 window_or_new page c p depth i (Some name) = sending c (Copy (Slot i window_slot) ∷ (HandOver ∷ [])) depth ValueDraft
 window_or_new page c p depth i None = make_window c depth i (class_place (codes "Window") page.classes) (has_room p)
 
@@ -43,7 +43,7 @@ is_there phases.Destroying = true
 is_there phase = false
 
 -- NPN_GetValue asks for the window: its object, or false where there is none
-abbrev pub window_reply : Page → PageControl → SideState PageControl → Depth → ℕ → Plan PageControl
+abbrev pub window_reply : Page → PageControl → SideView → Depth → ℕ → Plan PageControl
 window_reply page c p depth i =
     if is_there (phase_in i p.instances) then window_or_new page c p depth i (name_of (read_at window_slot (slots_in i p.instances)))
     else sending c [] depth (PlainDraft payloads.False)

@@ -1,8 +1,9 @@
-ghost use Rattle.std.specs.Prelude.{◌≡◌, [], ◌∷◌, ◌++◌, ◌↔◌, length, IsTrue, IfOk, OnOk, OnErr};
+ghost use Rattle.std.specs.Prelude.{◌≡◌, ◌<◌, [], ◌∷◌, ◌++◌, ◌↔◌, length, slice_index_or, slice_set, IsTrue, IfOk, OnOk, OnErr, MatchOption};
 
 use crate::{NoMemory, TryCopy};
 use std::alloc::Global;
 use std::marker::Model;
+use std::mem;
 
 /// A list that owns its items and keeps its allocator.
 #[derive(Drop)]
@@ -47,6 +48,22 @@ impl<T> Seq<T> {
         ensures value { IsTrue result ↔ (self.now ≡ []) }
     {
         self.items.is_empty()
+    }
+
+    /// Puts the item at the place, and gives back what was there. No memory is taken.
+    pub fn replace(&mut self, place: usize, item: T) -> T
+        requires within { place < length self.old }
+        ensures list { self.new ≡ slice_set self.old place item }
+        ensures value { result ≡ slice_index_or self.old place result }
+    {
+        mem::replace(&mut self.items[place], item)
+    }
+
+    /// Takes the last item off, if there is one. The list keeps its room.
+    pub fn pop(&mut self) -> Option<T>
+        ensures value { MatchOption result ((self.old ≡ []) × (self.new ≡ [])) (λ item. self.old ≡ self.new ++ item ∷ []) }
+    {
+        self.items.pop()
     }
 }
 

@@ -1,0 +1,8 @@
+use Rattle.std.proofs.Common.{arith, ◌-◌, ◌+◌}
+use Rattle.np_machine.specs.declared.frame.Progress.{Progress}
+use Rattle.np_side_places.proofs.Steps.{progress-put}
+use Rattle.np_side_places.proofs.places.Places.advance.Goals as goal
+
+pub returns : goal.returns
+returns c =
+    record { ok = progress-put c.args.self.now c.self.inside.registers c.self.inside.instances.items c.self.inside.frames.items _ (c.len-frames.result - 1) c.len-frames.result (λ (s : Progress). record s { done = s.done + c.args.count }) c.index_mut-frame.result.now c.self.view_is (omega arith) (omega arith) c.index_mut-frame.ensures.value }
