@@ -3,9 +3,11 @@ use Rattle.std.specs.Prelude.{Bool, List, None, Option, Some, [], drop, false, i
 use Rattle.np_values.specs.declared.value.Value.TheVariants as values
 use Rattle.np_values.specs.declared.value.Value.{Value}
 use Rattle.np_idents.specs.declared.op.Op.TheVariants as ops
+use Rattle.np_idents.specs.declared.op.Op.{Op}
 use Rattle.np_script_grammar.specs.declared.action.Action.TheVariants as actions
 use Rattle.np_script_grammar.specs.declared.action.Action.{Action}
 use Rattle.np_script_grammar.specs.declared.action.Operand.TheVariants.{Const}
+use Rattle.np_script_grammar.specs.declared.action.Operand.{Operand}
 use Rattle.np_script_grammar.specs.declared.class.ClassDef.{ClassDef}
 use Rattle.np_machine.specs.declared.frame.Caller.TheVariants.{FrameBelow}
 use Rattle.np_machine.specs.declared.frame.Continuation.TheVariants.{Assign, AssignCount, Discard}
@@ -16,23 +18,28 @@ use Rattle.np_machine.specs.declared.step.Step.TheVariants.{Advance, Await, Cons
 use Rattle.np_machine.specs.declared.step.Step.{Step}
 use Rattle.np_machine.specs.Plan.{Plan}
 use Rattle.np_machine_plans.specs.View.{SideView}
-use Rattle.np_machine_plans.specs.Calls.{CallSite, call}
+use Rattle.np_machine_plans.specs.Calls.{AfterCall, CallSite, after_call, call}
 use Rattle.np_machine_plans.specs.Classes.{class_place}
 use Rattle.np_machine_plans.specs.PlanParts.{after_steps, assign, is_same_value, noted_line, operand_step, operand_value, plan}
 use Rattle.np_machine_plans.specs.Results.{Failed, continue_steps, is_success, result_steps}
 use Rattle.np_machine_plans.specs.Returns.{BodyRules, end_body, return_operand, with_exception}
 
--- the newest frame calls; at a result that is there at once it continues
-abbrev pub frame_site : {C : Type 0} → BodyRules C → Frame → Continuation → CallSite C
-frame_site rules frame continuation = record {
-  register = Register;
-  registers = frame.registers;
-  depth = frame.depth;
-  caller = FrameBelow;
-  resumed = λ result. plan rules.counted (SetFlag (is_success result) ∷ (result_steps result ++ continue_steps Register continuation));
-  local_wait = plan rules.counted (Await continuation ∷ []);
-  remote_wait = plan rules.counted (Await continuation ∷ []);
+-- the newest frame calls
+abbrev pub frame_site : Frame → CallSite
+frame_site frame = record { register = Register; registers = frame.registers; depth = frame.depth; caller = FrameBelow }
+
+-- At a result that is there at once the frame continues; else it waits.
+abbrev pub after_frame_call : {C : Type 0} → C → Continuation → AfterCall C
+after_frame_call c continuation = record {
+  resumed = λ result. plan c (SetFlag (is_success result) ∷ (result_steps result ++ continue_steps Register continuation));
+  local_wait = plan c (Await continuation ∷ []);
+  remote_wait = plan c (Await continuation ∷ []);
 }
+
+-- the call of an action
+abbrev pub frame_call : {C : Type 0} → BodyRules C → SideView → Frame → Continuation → Operand → Op → List Operand → Plan C
+frame_call rules p frame continuation target op arguments =
+    after_call (after_frame_call rules.counted continuation) (call (frame_site frame) rules.classes p rules.task target op arguments)
 
 -- ---- actions that make no call
 
@@ -96,15 +103,15 @@ action_plan rules p frame below (actions.Drop r) = plain rules p frame (actions.
 action_plan rules p frame below (actions.Slot n v) = plain rules p frame (actions.Slot n v)
 action_plan rules p frame below (actions.Load r n) = plain rules p frame (actions.Load r n)
 action_plan rules p frame below (actions.SelfTo r) = plain rules p frame (actions.SelfTo r)
-action_plan rules p frame below (actions.Invoke r v key arguments) = call (frame_site rules frame (Assign r)) rules.classes p rules.task v (ops.Invoke key) arguments
-action_plan rules p frame below (actions.CallDefault r v arguments) = call (frame_site rules frame (Assign r)) rules.classes p rules.task v ops.Default arguments
-action_plan rules p frame below (actions.Construct r v arguments) = call (frame_site rules frame (Assign r)) rules.classes p rules.task v ops.Construct arguments
-action_plan rules p frame below (actions.Get r v key) = call (frame_site rules frame (Assign r)) rules.classes p rules.task v (ops.Get key) []
-action_plan rules p frame below (actions.Put v key w) = call (frame_site rules frame Discard) rules.classes p rules.task v (ops.Put key) (w ∷ [])
-action_plan rules p frame below (actions.Remove v key) = call (frame_site rules frame Discard) rules.classes p rules.task v (ops.Remove key) []
-action_plan rules p frame below (actions.HasMethod v key) = call (frame_site rules frame Discard) rules.classes p rules.task v (ops.HasMethod key) []
-action_plan rules p frame below (actions.HasProperty v key) = call (frame_site rules frame Discard) rules.classes p rules.task v (ops.HasProperty key) []
-action_plan rules p frame below (actions.Enumerate r v) = call (frame_site rules frame (AssignCount r)) rules.classes p rules.task v ops.Enumerate []
+action_plan rules p frame below (actions.Invoke r v key arguments) = frame_call rules p frame (Assign r) v (ops.Invoke key) arguments
+action_plan rules p frame below (actions.CallDefault r v arguments) = frame_call rules p frame (Assign r) v ops.Default arguments
+action_plan rules p frame below (actions.Construct r v arguments) = frame_call rules p frame (Assign r) v ops.Construct arguments
+action_plan rules p frame below (actions.Get r v key) = frame_call rules p frame (Assign r) v (ops.Get key) []
+action_plan rules p frame below (actions.Put v key w) = frame_call rules p frame Discard v (ops.Put key) (w ∷ [])
+action_plan rules p frame below (actions.Remove v key) = frame_call rules p frame Discard v (ops.Remove key) []
+action_plan rules p frame below (actions.HasMethod v key) = frame_call rules p frame Discard v (ops.HasMethod key) []
+action_plan rules p frame below (actions.HasProperty v key) = frame_call rules p frame Discard v (ops.HasProperty key) []
+action_plan rules p frame below (actions.Enumerate r v) = frame_call rules p frame (AssignCount r) v ops.Enumerate []
 action_plan rules p frame below (actions.Note v) = plan rules.counted (Print (noted_line p (operand_value frame.registers v)) ∷ [])
 action_plan rules p frame below (actions.OnTrue n) = plain rules p frame (actions.OnTrue n)
 action_plan rules p frame below (actions.OnFalse n) = plain rules p frame (actions.OnFalse n)

@@ -5,7 +5,9 @@ use Rattle.np_values.specs.declared.error.NpError.{NpError}
 use Rattle.np_values.specs.declared.name.Name.{Name}
 use Rattle.np_values.specs.declared.value.Value.TheVariants as values
 use Rattle.np_idents.specs.declared.op.Op.TheVariants as ops
+use Rattle.np_idents.specs.declared.op.Op.{Op}
 use Rattle.np_script_grammar.specs.declared.command.Command.TheVariants as commands
+use Rattle.np_script_grammar.specs.declared.action.Operand.{Operand}
 use Rattle.np_script_grammar.specs.declared.command.Command.{Command}
 use Rattle.np_script_grammar.specs.declared.page.Page.{Page}
 use Rattle.np_message.specs.declared.payload.Payload.TheVariants as payloads
@@ -25,7 +27,7 @@ use Rattle.np_machine_plans.specs.declared.page.PeerState.TheVariants as peers
 use Rattle.np_machine_plans.specs.declared.page.PeerState.{PeerState}
 use Rattle.np_machine_plans.specs.declared.page.Stage.TheVariants as stages
 use Rattle.np_machine_plans.specs.Actions.{has_room}
-use Rattle.np_machine_plans.specs.Calls.{CallSite, call}
+use Rattle.np_machine_plans.specs.Calls.{AfterCall, CallSite, after_call, call}
 use Rattle.np_machine_plans.specs.Classes.{class_place}
 use Rattle.np_machine_plans.specs.PageControls.{command_calls, command_fails, command_result, ends_command, printed_value}
 use Rattle.np_machine_plans.specs.PageStreams.{open_plan}
@@ -33,16 +35,21 @@ use Rattle.np_machine_plans.specs.PlanParts.{assign, noted_line, operand_step, o
 use Rattle.np_machine_plans.specs.Teardown.{is_live, teardown_once}
 
 -- a command calls an object at depth 0
-abbrev pub command_site : PageControl → SideView → Continuation → CallSite PageControl
-command_site c p continuation = record {
-  register = PageRegister;
-  registers = p.registers;
-  depth = 0;
-  caller = callers.Command;
+abbrev pub command_site : SideView → CallSite
+command_site p = record { register = PageRegister; registers = p.registers; depth = 0; caller = callers.Command }
+
+-- At a result that is there at once the command ends; else it waits.
+abbrev pub after_command_call : PageControl → SideView → Continuation → AfterCall PageControl
+after_command_call c p continuation = record {
   resumed = command_result c p continuation;
   local_wait = plan (record c { stage = stages.Running continuation }) [];
   remote_wait = plan (record c { stage = stages.Awaiting (calls.Object continuation) }) [];
 }
+
+-- the call of a command
+abbrev pub command_calls_object : Page → PageControl → SideView → Continuation → Operand → Op → List Operand → Plan PageControl
+command_calls_object page c p continuation target op arguments =
+    after_call (after_command_call c p continuation) (call (command_site p) page.classes p false target op arguments)
 
 -- ---- `create`
 
@@ -94,15 +101,15 @@ command_plan page c p (commands.Scriptable r i) = if_live p i (command_calls c [
 command_plan page c p (commands.New r i name) = new_plan c p r i (class_place name page.classes) (is_live (phase_in i p.instances) && has_room p)
 command_plan page c p (commands.Set r v) = ends_command c (operand_step PageRegister v ∷ assign (PageRegister r)) (printed_value p (operand_value p.registers v))
 command_plan page c p (commands.Drop r) = ends_command c (Constant values.Void ∷ assign (PageRegister r)) (printed.Yes values.Void false)
-command_plan page c p (commands.Invoke r v key arguments) = call (command_site c p (Assign r)) page.classes p false v (ops.Invoke key) arguments
-command_plan page c p (commands.CallDefault r v arguments) = call (command_site c p (Assign r)) page.classes p false v ops.Default arguments
-command_plan page c p (commands.Construct r v arguments) = call (command_site c p (Assign r)) page.classes p false v ops.Construct arguments
-command_plan page c p (commands.Get r v key) = call (command_site c p (Assign r)) page.classes p false v (ops.Get key) []
-command_plan page c p (commands.Put v key w) = call (command_site c p Discard) page.classes p false v (ops.Put key) (w ∷ [])
-command_plan page c p (commands.Remove v key) = call (command_site c p Discard) page.classes p false v (ops.Remove key) []
-command_plan page c p (commands.HasMethod v key) = call (command_site c p Discard) page.classes p false v (ops.HasMethod key) []
-command_plan page c p (commands.HasProperty v key) = call (command_site c p Discard) page.classes p false v (ops.HasProperty key) []
-command_plan page c p (commands.Enumerate r v) = call (command_site c p (AssignCount r)) page.classes p false v ops.Enumerate []
+command_plan page c p (commands.Invoke r v key arguments) = command_calls_object page c p (Assign r) v (ops.Invoke key) arguments
+command_plan page c p (commands.CallDefault r v arguments) = command_calls_object page c p (Assign r) v ops.Default arguments
+command_plan page c p (commands.Construct r v arguments) = command_calls_object page c p (Assign r) v ops.Construct arguments
+command_plan page c p (commands.Get r v key) = command_calls_object page c p (Assign r) v (ops.Get key) []
+command_plan page c p (commands.Put v key w) = command_calls_object page c p Discard v (ops.Put key) (w ∷ [])
+command_plan page c p (commands.Remove v key) = command_calls_object page c p Discard v (ops.Remove key) []
+command_plan page c p (commands.HasMethod v key) = command_calls_object page c p Discard v (ops.HasMethod key) []
+command_plan page c p (commands.HasProperty v key) = command_calls_object page c p Discard v (ops.HasProperty key) []
+command_plan page c p (commands.Enumerate r v) = command_calls_object page c p (AssignCount r) v ops.Enumerate []
 command_plan page c p (commands.Note v) = ends_command c (Print (noted_line p (operand_value p.registers v)) ∷ []) (printed.Yes values.Void false)
 command_plan page c p commands.Turn = turn_plan c c.peer
 command_plan page c p (commands.OpenStream i url) = open_plan page c p i url

@@ -20,7 +20,7 @@ use Rattle.np_machine.specs.declared.step.Step.TheVariants.{Constant, DropEach, 
 use Rattle.np_machine.specs.declared.step.Step.{Step}
 use Rattle.np_machine.specs.Plan.{Plan}
 use Rattle.np_machine_plans.specs.View.{SideView, is_dead}
-use Rattle.np_machine_plans.specs.Calls.{CallSite, may_set, stored_call}
+use Rattle.np_machine_plans.specs.Calls.{Answer, may_set, stored_call}
 use Rattle.np_machine_plans.specs.Classes.{class_at, object_of}
 use Rattle.np_machine_plans.specs.PlanParts.{after_steps, assign, plan}
 use Rattle.np_machine_plans.specs.Results.{CallResult, Failed, Returned, reply}
@@ -34,17 +34,9 @@ drop_call n result = DropEach n ∷ []
 abbrev pub serve_reply : {C : Type 0} → C → Depth → ℕ → CallResult → Plan C
 serve_reply c depth n result = reply c (drop_call n result) depth result
 
--- a stored entry answers at once, so it waits for nothing
-abbrev pub serving_site : {C : Type 0} → C → Depth → CallSite C
-serving_site c depth = record {
-  register = Register;
-  registers = [];
-  depth = 0;
-  caller = RemoteCall depth;
-  resumed = serve_reply c depth 1;
-  local_wait = plan c [];
-  remote_wait = plan c [];
-}
+-- a stored entry answers at once, with its target in flight
+abbrev pub serve_answer : {C : Type 0} → C → Depth → Answer → Plan C
+serve_answer c depth answer = after_steps answer.steps (serve_reply c depth 1 answer.result)
 
 -- `setProperty` has its value in flight already
 abbrev pub serve_put : {C : Type 0} → C → Depth → Object → IdKey → Plan C
@@ -55,7 +47,7 @@ serve_put c depth o key =
 -- a stored entry, by its operation
 abbrev pub serve_stored : {C : Type 0} → C → Depth → ClassDef → Object → Op → Plan C
 serve_stored c depth class o (ops.Put key) = serve_put c depth o key
-serve_stored c depth class o op = stored_call (serving_site c depth) class o op []
+serve_stored c depth class o op = serve_answer c depth (stored_call Register class o op [])
 
 -- by the class table, as a call of this side
 abbrev pub serve_entry : {C : Type 0} → C → Depth → ClassDef → Object → Op → ℕ → Found → Plan C
