@@ -8,5 +8,9 @@ pub mod TakingLemmas
 pub mod NameLemmas
 pub mod KeepingLemmas
 pub mod CountLemmas
+pub mod MembershipLemmas
+pub mod ClearingLemmas
 pub mod SendingLemmas
 pub mod CountedLemmas
+pub mod CountedNames
+pub mod CallLemmas

@@ -223,9 +223,14 @@ has_come e = nat_lt 0 e.received
 abbrev pub gives_back : Release → Bool
 gives_back r = nat_lt 0 r.times
 
+-- its numbers are of their types
+abbrev pub is_typed : Release → Bool
+is_typed r = nat_lt r.instance 256 && (nat_lt r.serial 4294967296 && nat_lt r.times 4294967296)
+
 pub record AreCounted (proxies : List Import) (releases : List Release) : Type 0 where
   pub came : list_all has_come proxies ≡ true
   pub given : list_all gives_back releases ≡ true
+  pub typed : list_all is_typed releases ≡ true
 
 pub record HoldsImports (imports : Imported) (capacity : ℕ) : Type 0 where
   pub keeps : KeepsImports imports capacity

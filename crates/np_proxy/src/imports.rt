@@ -1,8 +1,12 @@
-ghost use Rattle.std.specs.Prelude.{◌≡◌, ◌+◌, ◌-◌, ◌<◌, ◌^◌, [], None, true, length, replicate, false, ℕ, IfOk, IfErr, OnOk, OnErr};
+ghost use Rattle.std.specs.Prelude.{◌≡◌, ◌+◌, ◌-◌, ◌<◌, ◌^◌, ◌==◌, ◌&&◌, nat_lt, [], None, true, length, replicate, false, ℕ, IfOk, IfErr, OnOk, OnErr, if◌then◌else◌};
 ghost use Rattle.std.specs.List.{list_all};
 ghost use Rattle.np_values.specs.declared.name.Name.{Name};
-ghost use Rattle.np_proxy.specs.Imports.{holders_of, first_full, accepted, held, unheld, cleared, names_held, purged_of, was_purged, release_name, gives_back, KeepsImports, IsCause};
-ghost use Rattle.np_proxy.specs.Named.{is_rising, itself};
+ghost use Rattle.np_values.specs.Name.{is_same_side};
+ghost use Rattle.np_proxy_release.specs.Release.{AreRising, AreTypedReleases};
+ghost use Rattle.np_proxy.specs.Imports.{holders_of, count_in, first_full, accepted, held, unheld, cleared, names_held, purged_of, was_purged, release_name, gives_back, KeepsImports, IsCause};
+ghost use Rattle.np_proxy.specs.Named.{is_rising, is_same, itself};
+ghost use Rattle.np_proxy.specs.Counts.{LastGoes, SameCounts, GivesBack};
+ghost use Rattle.np_proxy.specs.Sending.{HasCountedNames};
 
 use crate::named::find;
 use crate::pending::{add_release, drop_first, remove_releases};
@@ -37,6 +41,7 @@ impl Imports {
     /// No name came to the side yet. It takes no memory.
     pub fn new(alloc: Global, side: Side) -> Imports
         ensures value { result ≡ record { side = side; proxies = []; releases = []; purged = replicate 256 false } }
+        ensures unpurged { (number : ℕ) → was_purged result.purged number ≡ false }
     {
         Imports {
             side,
@@ -102,6 +107,8 @@ impl Imports {
     pub fn unhold(&mut self, name: Name)
         requires held { 0 < holders_of self.old name }
         ensures value { self.new ≡ unheld name self.old }
+        ensures last { holders_of self.old name ≡ 1 → LastGoes name self.old self.new }
+        ensures others { (x : Name) → is_same x name ≡ false → is_same_side x.side self.old.side ≡ false → SameCounts x self.old self.new }
     {
         match let_go(&mut self.proxies, name) {
             Some(received) => add_release(
@@ -116,11 +123,13 @@ impl Imports {
         }
     }
 
-    /// The pending releases, in rising order.
+    /// The pending releases, in rising order. A message may carry them where all names that came are counted from 1.
     pub fn releases(&self) -> &[Release]
         ensures value { result.now ≡ self.now.releases }
         ensures rising { is_rising release_name self.now.releases ≡ true }
         ensures counted { list_all gives_back self.now.releases ≡ true }
+        ensures typed { AreTypedReleases self.now.releases }
+        ensures message { HasCountedNames self.now → AreRising self.now.releases }
         ensures keeps { (capacity : ℕ) × KeepsImports self.now capacity }
     {
         self.releases.as_slice()
@@ -129,6 +138,7 @@ impl Imports {
     /// A message carries the first 1,024 pending releases, or all where there are fewer.
     pub fn clear_releases(&mut self)
         ensures value { self.new ≡ cleared self.old }
+        ensures carried { (x : Name) → GivesBack x self.old self.new }
     {
         drop_first(&mut self.releases);
     }
@@ -137,6 +147,7 @@ impl Imports {
     pub fn purge(&mut self, instance: u8) -> Result<NameList, NoMemory>
         ensures names { IfOk result (λ names. names ≡ names_held instance self.old) }
         ensures rising { IfOk result (λ names. is_rising itself names ≡ true) }
+        ensures held { IfOk result (λ names. (x : Name) → count_in x names ≡ (if x.instance == instance && nat_lt 0 (holders_of self.old x) then 1 else 0)) }
         ensures ok { OnOk result (self.new ≡ purged_of instance self.old) }
         ensures purged { OnOk result (was_purged self.new.purged instance ≡ true) }
         ensures err { OnErr result (self.new ≡ self.old) }

@@ -18,5 +18,5 @@ pub use exports::Exports;
 pub use import::Import;
 pub use imports::Imports;
 pub use incoming::Incoming;
-pub use laws::{exports_count, imports_count, releases_rise};
+pub use laws::{counted_names_stay, exports_are_kept, exports_count, imports_count, releases_rise};
 pub use np_proxy_release::{Release, Releases};

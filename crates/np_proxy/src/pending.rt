@@ -2,7 +2,8 @@
 ghost use Rattle.std.specs.Prelude.{◌≡◌, ◌+◌, ◌<◌, ◌≤◌, ◌^◌, true, length, drop, filter};
 ghost use Rattle.std.specs.Vec.{vec_capacity};
 ghost use Rattle.np_proxy.specs.Named.{is_rising};
-ghost use Rattle.np_proxy.specs.Imports.{release_name, times_in, with_release, is_release_of_other};
+ghost use Rattle.std.specs.List.{list_all};
+ghost use Rattle.np_proxy.specs.Imports.{release_name, times_in, with_release, is_release_of_other, is_typed};
 
 use crate::Release;
 use crate::named::{Named, find, get, put};
@@ -34,6 +35,7 @@ pub fn add_release(releases: &mut Vec<Release>, release: Release)
     requires fits { times_in (release_name release) releases.old.items + release.times < 2 ^ 32 }
     ensures value { releases.new.items ≡ with_release release releases.old.items }
     ensures rising { is_rising release_name releases.new.items ≡ true }
+    ensures typed { list_all is_typed releases.old.items ≡ true → list_all is_typed releases.new.items ≡ true }
     ensures capacity { vec_capacity releases.old ≤ vec_capacity releases.new }
 {
     match find(releases.as_slice(), release.name()) {

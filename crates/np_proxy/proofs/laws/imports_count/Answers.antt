@@ -1,5 +1,6 @@
 use Rattle.std.proofs.Common.{refl}
 use Rattle.np_proxy.proofs.CountLemmas.{received-accepted, holders-accepted, received-purged, holders-purged, holders-held, received-held, holders-unheld, received-unheld, pending-unheld, last-goes, others-same, none-left}
+use Rattle.np_proxy.proofs.ClearingLemmas.{clears-count, held-names, others-kept, marks-kept}
 use Rattle.np_proxy.proofs.laws.imports_count.Goals as goal
 
 pub returns-clause-accepts : goal.returns-clause-accepts
@@ -22,3 +23,15 @@ returns-clause-others c x y imports capacity keeps h d side = others-same x y im
 
 pub returns-clause-purge : goal.returns-clause-purge
 returns-clause-purge c x imports = none-left x imports
+
+pub returns-clause-other_instances : goal.returns-clause-other_instances
+returns-clause-other_instances c = others-kept
+
+pub returns-clause-marks : goal.returns-clause-marks
+returns-clause-marks c = marks-kept
+
+pub returns-clause-clears : goal.returns-clause-clears
+returns-clause-clears c = clears-count
+
+pub returns-clause-names : goal.returns-clause-names
+returns-clause-names c x instance imports capacity keeps = held-names x instance imports.proxies keeps.proxies_rise
