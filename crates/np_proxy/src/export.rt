@@ -1,11 +1,12 @@
 use crate::named::Named;
-use np_name_search::number_of;
+use np_name_search::NumberedName;
 use np_values::Name;
 
 /// An object of this side that the other side may name.
-#[derive(Clone, Copy, Debug, PartialEq, Eq)]
+#[derive(Drop)]
 pub struct Export {
-    pub name: Name,
+    /// Its name, which keeps its number for searches.
+    pub name: NumberedName,
     /// How many references to it the other side has, or will have: those sent, without those released.
     pub out: u64,
 }
@@ -16,10 +17,10 @@ impl Named for Export {
     ghost name_of = { export_name };
 
     fn name(&self) -> Name {
-        self.name
+        self.name.name()
     }
 
     fn number(&self) -> u64 {
-        number_of(self.name)
+        self.name.number()
     }
 }

@@ -3,8 +3,9 @@ ghost use Rattle.np_proxy.specs.Exports.{out_of, is_exported, released_name, add
 ghost use Rattle.np_proxy.specs.declared.error.ProxyError.TheVariants.{Unknown, TooMany};
 
 use crate::export::Export;
-use crate::named::{find, get, put, take};
+use crate::named::{Named, find, get, put, take};
 use crate::{ProxyError, Release};
+use np_name_search::NumberedName;
 use np_values::{Name, NoMemory, Side};
 use std::alloc::Global;
 use std::marker::Model;
@@ -56,7 +57,11 @@ impl Exports {
         ensures ok { OnOk result (self.new ≡ added name self.old) }
         ensures err { OnErr result (self.new ≡ self.old) }
     {
-        put(&mut self.objects, Export { name, out: 0 })
+        let export = Export {
+            name: NumberedName::new(name),
+            out: 0,
+        };
+        put(&mut self.objects, export)
     }
 
     /// A message takes one reference to the object to the other side.
@@ -151,5 +156,5 @@ impl Exports {
 fn remove_exports(objects: &mut Vec<Export>, instance: u8)
     ensures value { objects.new.items ≡ filter (is_of_other_instance instance) objects.old.items }
 {
-    objects.retain(|export| export.name.instance != instance);
+    objects.retain(|export| export.name().instance != instance);
 }

@@ -1,11 +1,12 @@
 use crate::named::Named;
-use np_name_search::number_of;
+use np_name_search::NumberedName;
 use np_values::Name;
 
 /// A proxy: what this side knows of an object of the other side that it names.
-#[derive(Clone, Copy, Debug, PartialEq, Eq)]
+#[derive(Drop)]
 pub struct Import {
-    pub name: Name,
+    /// The object's name, which keeps its number for searches.
+    pub name: NumberedName,
     /// How often the name came since its last release arose.
     pub received: u32,
     /// How many references of this side name the object.
@@ -18,10 +19,10 @@ impl Named for Import {
     ghost name_of = { import_name };
 
     fn name(&self) -> Name {
-        self.name
+        self.name.name()
     }
 
     fn number(&self) -> u64 {
-        number_of(self.name)
+        self.name.number()
     }
 }

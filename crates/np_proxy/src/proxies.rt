@@ -5,9 +5,10 @@ ghost use Rattle.np_values.specs.declared.name.Name.{Name};
 ghost use Rattle.np_proxy.specs.Named.{is_rising, at_name, without_named};
 ghost use Rattle.np_proxy.specs.Imports.{import_name, release_name, received_in, holders_in, was_purged, taken_up, all_taken_up, has_room, full_among, count_in, held_once_less, is_held_in, is_proxy_of_other};
 
-use crate::named::{find, get, put};
+use crate::named::{Named, find, get, put};
 use crate::pending::pending_times;
 use crate::{Import, Release};
+use np_name_search::NumberedName;
 use np_values::{Name, NameList, NoMemory};
 use std::alloc::Global;
 
@@ -104,7 +105,7 @@ fn take_up(proxies: &mut Vec<Import>, purged: &[bool; 256], name: Name)
         }
         None => {
             let proxy = Import {
-                name,
+                name: NumberedName::new(name),
                 received: 1,
                 holders: 1,
             };
@@ -177,8 +178,9 @@ pub fn held_names(alloc: Global, proxies: &[Import], instance: u8) -> Result<Nam
 {
     let mut names = NameList::new(alloc);
     for proxy in proxies {
-        if proxy.name.instance == instance && proxy.holders > 0 {
-            names.push(proxy.name)?;
+        let name = proxy.name();
+        if name.instance == instance && proxy.holders > 0 {
+            names.push(name)?;
         }
     }
     Ok(names)
@@ -188,5 +190,5 @@ pub fn held_names(alloc: Global, proxies: &[Import], instance: u8) -> Result<Nam
 pub fn remove_proxies(proxies: &mut Vec<Import>, instance: u8)
     ensures value { proxies.new.items ≡ filter (is_proxy_of_other instance) proxies.old.items }
 {
-    proxies.retain(|proxy| proxy.name.instance != instance);
+    proxies.retain(|proxy| proxy.name().instance != instance);
 }
