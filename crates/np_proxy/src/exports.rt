@@ -1,5 +1,6 @@
 ghost use Rattle.std.specs.Prelude.{◌≡◌, ◌↔◌, ◌<◌, ◌≤◌, ◌-◌, ◌^◌, [], true, false, filter, Ok, Err, IsTrue, IfOk, IfErr, OnOk, OnErr, IsErrOf};
-ghost use Rattle.np_proxy.specs.Exports.{out_of, is_exported, released_name, added, sent, released, dropped, purged, is_of_other_instance, IsRefusal};
+ghost use Rattle.np_proxy.specs.Exports.{export_name, out_of, is_exported, released_name, added, sent, released, dropped, purged, is_of_other_instance, IsRefusal};
+ghost use Rattle.np_proxy.specs.Named.{IsAt};
 ghost use Rattle.np_proxy.specs.declared.error.ProxyError.TheVariants.{Unknown, TooMany};
 
 use crate::export::Export;
@@ -121,7 +122,7 @@ impl Exports {
             instance: entry.instance,
             serial: entry.serial,
         };
-        let out = self.out(name);
+        let (place, out) = self.find_out(name);
         if out == 0 {
             return Err(ProxyError::Unknown {
                 instance: entry.instance,
@@ -134,22 +135,29 @@ impl Exports {
                 out,
             });
         }
-        self.take_back(name, u64::from(entry.times));
+        self.take_back(place, name, u64::from(entry.times));
         Ok(u64::from(entry.times) == out)
     }
 
-    // So many references to the object come back.
-    fn take_back(&mut self, name: Name, times: u64)
+    // The place of the export, where references to it are out, and how many.
+    fn find_out(&self, name: Name) -> (usize, u64)
+        ensures out { result.1 ≡ out_of self.now name }
+        ensures at { 0 < result.1 → IsAt export_name name self.now.objects result.0 }
+    {
+        match find(self.objects.as_slice(), name) {
+            Some(place) => (place, self.objects[place].out),
+            None => (self.objects.len(), 0),
+        }
+    }
+
+    // So many references to the object at this place come back.
+    fn take_back(&mut self, place: usize, name: Name, times: u64)
+        requires at { IsAt export_name name self.old.objects place }
         requires out { times ≤ out_of self.old name }
         ensures value { self.new ≡ released name times self.old }
     {
-        match find(self.objects.as_slice(), name) {
-            Some(place) => {
-                let export = &mut self.objects[place];
-                export.out -= times;
-            }
-            None => {}
-        }
+        let export = &mut self.objects[place];
+        export.out -= times;
     }
 }
 
