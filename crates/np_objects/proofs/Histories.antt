@@ -133,7 +133,7 @@ edit-kept : (x y : Name) (f : LiveObject → LiveObject) (os : List LiveObject) 
     → (is_some (object_at x (at_name y f os)) ≡ true) × (holds_of (object_at x (at_name y f os)) + 0 ≡ holds_of (object_at x os) + 0)
 edit-kept x y f os k h l = (kept-at is_some x y f k (λ o. refl) os ∙ l, let e = kept-at holds_of x y f k h os in omega (arith, e))
 
-either : (a b : Bool) → (a || b) ≡ false → (a ≡ false) × (b ≡ false)
+pub either : (a b : Bool) → (a || b) ≡ false → (a ≡ false) × (b ≡ false)
 either false b e = (refl, e)
 either true b e = cc
 

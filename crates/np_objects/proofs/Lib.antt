@@ -5,3 +5,4 @@ pub mod Keeping
 pub mod Lookups
 pub mod Histories
 pub mod NamesBeside
+pub mod Changes

@@ -9,7 +9,7 @@ use Rattle.np_objects.proofs.Names.{same-is, same-flip}
 use Rattle.np_objects.proofs.Finding.{edited-at, unchanged}
 
 -- another name is looked up as before
-other-at : (x y : Name) (f : LiveObject → LiveObject) → ((o : LiveObject) → (f o).name ≡ o.name) → is_same x y ≡ false → (os : List LiveObject) → object_at x (at_name y f os) ≡ object_at x os
+pub other-at : (x y : Name) (f : LiveObject → LiveObject) → ((o : LiveObject) → (f o).name ≡ o.name) → is_same x y ≡ false → (os : List LiveObject) → object_at x (at_name y f os) ≡ object_at x os
 other-at x y f k d [] = refl
 other-at x y f k d (o ∷ os) = go (is_same y o.name) refl (other-at x y f k d os)
   where

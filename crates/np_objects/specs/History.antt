@@ -1,11 +1,15 @@
 -- Whole histories of a store: what any list of its calls leaves. (This project's own.)
-use Rattle.std.specs.Prelude.{◌≡◌, ◌<◌, ◌≤◌, ℕ, ◌+◌, List, [], ◌∷◌, length, Bool, true, false, ◌||◌, ◌==◌, if◌then◌else◌}
+use Rattle.std.specs.Prelude.{◌≡◌, ◌<◌, ◌≤◌, ℕ, ◌+◌, List, [], ◌∷◌, length, Bool, true, false, ◌||◌, ◌==◌, if◌then◌else◌, Option, Some}
+use Rattle.std.specs.Option.{option_map}
 use Rattle.np_values.specs.declared.name.Side.{Side}
 use Rattle.np_values.specs.declared.name.Name.{Name}
 use Rattle.np_values.specs.declared.value.Value.{Value}
 use Rattle.np_idents.specs.declared.key.IdKey.{IdKey}
-use Rattle.np_objects.specs.LiveObjects.{is_same}
-use Rattle.np_objects.specs.Objects.{Objects, no_objects, last_serial, is_live, holds_in, may_die, next_name, after_create, after_hold, after_unhold, after_pin, after_unpin, after_set, after_remove, after_take, after_kill}
+use Rattle.np_objects.specs.declared.object.LiveObject.{LiveObject}
+use Rattle.np_objects.specs.declared.numbering.Numbering.{Numbering}
+use Rattle.np_objects.specs.Fields.{fields_set, without_field}
+use Rattle.np_objects.specs.LiveObjects.{is_same, object_at, raised, lowered, pin_set, fields_changed, fresh}
+use Rattle.np_objects.specs.Objects.{Objects, no_objects, numbering_of, numbered, killed, last_serial, is_live, holds_in, may_die, next_name, after_create, after_hold, after_unhold, after_pin, after_unpin, after_set, after_remove, after_take, after_kill}
 
 -- a call that changes a store
 pub data Call : Type 0 where
@@ -79,6 +83,41 @@ IsNewName c s = Unit {0}
 abbrev pub LiveObjectsAreKept : Type 0
 LiveObjectsAreKept = (c : Call) (s : Objects) (x : Name) → IsAllowed c s → IsNewName c s → is_live x s ≡ true → takes_out x (c ∷ []) ≡ false
     → (is_live x (after c s) ≡ true) × (holds_in x (after c s) + unholds_among x (c ∷ []) ≡ holds_in x s + holds_among x (c ∷ []))
+
+-- the object of the name x, where a call makes f of that of y
+abbrev pub changed_at : Name → Name → (LiveObject → LiveObject) → Option LiveObject → Option LiveObject
+changed_at x y f o = if is_same x y then option_map f o else o
+
+-- what a call leaves of the object of the name x, if it lives
+abbrev pub object_after : Call → Objects → Name → Option LiveObject → Option LiveObject
+object_after (Create instance class) s x o =
+    if length s.live == 1024 then o
+    else if is_same x (next_name instance s) then Some (fresh (next_name instance s) class)
+    else o
+object_after (Hold y) s x o = changed_at x y raised o
+object_after (Unhold y) s x o = changed_at x y lowered o
+object_after (Pin y) s x o = changed_at x y (pin_set true) o
+object_after (Unpin y) s x o = changed_at x y (pin_set false) o
+object_after (SetField y key value) s x o = changed_at x y (fields_changed (fields_set key value)) o
+object_after (RemoveField y key) s x o = changed_at x y (fields_changed (without_field key)) o
+object_after (TakeDead y) s x o = o
+object_after (Kill instance) s x o = o
+
+-- A call changes the object that it names, and no other one lives, dies or changes. (One that is taken out is gone: `Store::take_dead` says so.)
+abbrev pub EachObjectIsKnown : Type 0
+EachObjectIsKnown = (c : Call) (s : Objects) (x : Name) → IsNewName c s → takes_out x (c ∷ []) ≡ false
+    → object_at x (after c s).live ≡ object_after c s x (object_at x s.live)
+
+-- what a call leaves of the numbering of the instance n
+abbrev pub numbering_after : Call → Objects → ℕ → Numbering → Numbering
+numbering_after (Create instance class) s n g = if length s.live == 1024 then g else if n == instance then numbered g else g
+numbering_after (Kill instance) s n g = if n == instance then killed g else g
+numbering_after c s n g = g
+
+-- A call that makes an object gives a serial of its instance, one that kills marks its instance, and nothing else is changed of any instance.
+abbrev pub EachNumberingIsKnown : Type 0
+EachNumberingIsKnown = (c : Call) (s : Objects) (n : ℕ) → IsAllowed c s → length s.instances ≡ 256
+    → numbering_of n (after c s).instances ≡ numbering_after c s n (numbering_of n s.instances)
 
 -- While an object lives, its holds are those it had, with the calls that held it and less those that let it go.
 abbrev pub HoldsAreCounted : Type 0

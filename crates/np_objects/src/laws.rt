@@ -1,5 +1,5 @@
 ghost use Rattle.np_objects.specs.LiveObjects.{SameNamesAreEqual};
-ghost use Rattle.np_objects.specs.History.{LiveObjectsAreKept, HoldsAreCounted, SerialsOnlyRise, NoNameLivesAgain};
+ghost use Rattle.np_objects.specs.History.{LiveObjectsAreKept, EachObjectIsKnown, EachNumberingIsKnown, HoldsAreCounted, SerialsOnlyRise, NoNameLivesAgain};
 
 /// Two names are the same exactly where they are equal.
 pub fn same_names_are_equal()
@@ -9,6 +9,16 @@ pub fn same_names_are_equal()
 /// A call leaves each live object live but the one that it takes out, and changes the holds of the one that it holds or lets go.
 pub fn live_objects_are_kept()
     ensures law { LiveObjectsAreKept }
+{}
+
+/// What a call leaves of the object of each name: its class, fields, holds and pin.
+pub fn each_object_is_known()
+    ensures law { EachObjectIsKnown }
+{}
+
+/// What a call leaves of the last serial and the mark of each instance.
+pub fn each_numbering_is_known()
+    ensures law { EachNumberingIsKnown }
 {}
 
 /// While an object lives, its holds are the calls that held it less those that let it go.

@@ -2,7 +2,7 @@ ghost use Rattle.std.specs.Prelude.{◌≡◌, ◌≢◌, ◌<◌, ◌+◌, ◌^
 ghost use Rattle.std.specs.Option.{option_copied};
 ghost use Rattle.np_objects.specs.Fields.{field_at, is_new_for, set_outcome};
 ghost use Rattle.np_objects.specs.LiveObjects.{object_at, fresh, are_rising};
-ghost use Rattle.np_objects.specs.Objects.{no_objects, last_serial, is_killed as is_killed_in, names_of, is_live, holds_in, class_in, fields_in, is_free, may_die, next_name, after_create, after_hold, after_unhold, after_pin, after_unpin, after_set, after_remove, after_take, after_kill};
+ghost use Rattle.np_objects.specs.Objects.{IsKept, no_objects, last_serial, is_killed as is_killed_in, names_of, is_live, holds_in, class_in, fields_in, is_free, may_die, next_name, after_create, after_hold, after_unhold, after_pin, after_unpin, after_set, after_remove, after_take, after_kill};
 
 use crate::live::LiveObjects;
 use crate::{Dead, FieldSet, Fields, Numbering};
@@ -53,6 +53,7 @@ impl Store {
     /// The serial of the instance's newest object; 0 where it has had none.
     pub fn last_serial(&self, instance: u8) -> u32
         ensures value { result ≡ last_serial instance self.now }
+        ensures kept { IsKept self.now.side self.now.live self.now.instances }
     {
         self.instances[instance as usize].last_serial
     }
