@@ -47,7 +47,7 @@ begun-set (p ∷ ps) (suc i) phase begun one =
 not-zero : (i : ℕ) → (suc i == 0) ≡ false
 not-zero i = grind (arith, nat_tests)
 
-phase-at : (phases : List Phase) (i : ℕ) → phase_of phases (suc i) ≡ get_or phases i Absent
+pub phase-at : (phases : List Phase) (i : ℕ) → phase_of phases (suc i) ≡ get_or phases i Absent
 phase-at phases i = let e : suc i - 1 ≡ i = omega arith in rw (not-zero i, e) refl
 
 -- ---- which numbers were begun
