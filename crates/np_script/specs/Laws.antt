@@ -6,6 +6,7 @@ use Rattle.np_script_grammar.specs.declared.plugin.Plugin.{Plugin}
 use Rattle.np_script_grammar.specs.declared.refusal.ScriptError.{ScriptError}
 use Rattle.np_script_grammar.specs.Grammar.{IsPageScript, IsPluginScript, KeepsPageRules, KeepsPluginRules, canonical_page, canonical_plugin, script_limit}
 use Rattle.np_script_grammar.specs.Refusals.{FirstError}
+use Rattle.np_script_line_laws.specs.Limits.{KeepsPageLimits, KeepsPluginLimits}
 
 -- Bytes say one page.
 abbrev pub OnePage : Type 0
@@ -28,6 +29,13 @@ PageScriptsKeepRules = (bytes : List ℕ) (page : Page) → IsPageScript bytes p
 
 abbrev pub PluginScriptsKeepRules : Type 0
 PluginScriptsKeepRules = (bytes : List ℕ) (plugin : Plugin) → IsPluginScript bytes plugin → KeepsPluginRules plugin
+
+-- What a script says keeps the limits.
+abbrev pub PageScriptsKeepLimits : Type 0
+PageScriptsKeepLimits = (bytes : List ℕ) (page : Page) → IsPageScript bytes page → KeepsPageLimits page
+
+abbrev pub PluginScriptsKeepLimits : Type 0
+PluginScriptsKeepLimits = (bytes : List ℕ) (plugin : Plugin) → IsPluginScript bytes plugin → KeepsPluginLimits plugin
 
 -- The canonical text of a page that keeps the rules is a script that says it, where it isn't too long.
 abbrev pub CanonicalPagesAreScripts : Type 0

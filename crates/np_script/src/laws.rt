@@ -1,10 +1,10 @@
 //! What holds of scripts and their canonical texts.
-ghost use Rattle.np_script.specs.Laws.{OnePage, OnePlugin, NoPageIsRefused, NoPluginIsRefused, PageScriptsKeepRules, PluginScriptsKeepRules, CanonicalPagesAreScripts, CanonicalPluginsAreScripts, OneCanonicalPage, OneCanonicalPlugin, CommandsAreFew};
+ghost use Rattle.np_script.specs.Laws.{OnePage, OnePlugin, NoPageIsRefused, NoPluginIsRefused, PageScriptsKeepRules, PluginScriptsKeepRules, PageScriptsKeepLimits, PluginScriptsKeepLimits, CanonicalPagesAreScripts, CanonicalPluginsAreScripts, OneCanonicalPage, OneCanonicalPlugin, CommandsAreFew};
 
 use np_script_builder::{pages_are_built, plugins_are_built};
 use np_script_line_laws::{
     canonical_lines_say_pages, canonical_lines_say_plugins, canonical_pages_are_in_order,
-    canonical_plugins_are_in_order,
+    canonical_plugins_are_in_order, pages_keep_limits, plugins_keep_limits,
 };
 use np_script_text_laws::{
     lines_are_few, one_say, refused_texts_are_no_scripts, texts_have_their_lines,
@@ -52,6 +52,22 @@ pub fn plugin_scripts_keep_rules()
     ensures law { PluginScriptsKeepRules }
 {
     canonical_plugins_are_in_order();
+}
+
+/// What a page script says has no more than the limits allow, and nothing twice.
+pub fn page_scripts_keep_limits()
+    ensures law { PageScriptsKeepLimits }
+{
+    canonical_pages_are_in_order();
+    pages_keep_limits();
+}
+
+/// What a plug-in script says has no more than the limits allow, and nothing twice.
+pub fn plugin_scripts_keep_limits()
+    ensures law { PluginScriptsKeepLimits }
+{
+    canonical_plugins_are_in_order();
+    plugins_keep_limits();
 }
 
 /// The canonical text of a page that keeps the rules is a script that says it, where it isn't too long.

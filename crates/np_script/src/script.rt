@@ -1,4 +1,5 @@
 use np_script_grammar::{Page, Plugin};
+use np_script_line_laws::{pages_keep_limits, plugins_keep_limits};
 use std::marker::Model;
 
 /// A page that keeps every rule of the grammar but the size, seen as the page.
@@ -21,6 +22,7 @@ impl Model for PageScript {
 impl PageScript {
     ghost use Rattle.std.specs.Prelude.{◌≡◌};
     ghost use Rattle.np_script_grammar.specs.Grammar.{KeepsPageRules};
+    ghost use Rattle.np_script_line_laws.specs.Limits.{KeepsPageLimits};
 
     /// Keeps what the reader read. The caller has seen that it keeps the rules.
     pub fn new(page: Page) -> PageScript
@@ -34,7 +36,9 @@ impl PageScript {
     pub fn page(&self) -> &Page
         ensures same { result.now ≡ self.now }
         ensures rules { KeepsPageRules self.now }
+        ensures limits { KeepsPageLimits self.now }
     {
+        pages_keep_limits();
         &self.page
     }
 }
@@ -59,6 +63,7 @@ impl Model for PluginScript {
 impl PluginScript {
     ghost use Rattle.std.specs.Prelude.{◌≡◌};
     ghost use Rattle.np_script_grammar.specs.Grammar.{KeepsPluginRules};
+    ghost use Rattle.np_script_line_laws.specs.Limits.{KeepsPluginLimits};
 
     /// A plug-in that keeps the rules.
     pub fn new(plugin: Plugin) -> PluginScript
@@ -72,7 +77,9 @@ impl PluginScript {
     pub fn plugin(&self) -> &Plugin
         ensures same { result.now ≡ self.now }
         ensures rules { KeepsPluginRules self.now }
+        ensures limits { KeepsPluginLimits self.now }
     {
+        plugins_keep_limits();
         &self.plugin
     }
 }

@@ -68,17 +68,25 @@ page_lines_are page =
     (sym (append_assoc (flat_map (class_lines 0) page.classes) (map resource_line page.resources) (command_lines page))
     ∙ ap (λ (l : List Line). l ++ command_lines page) (sym (page_declarations page.classes page.resources)))
 
+pub page_classes : (classes : List ClassDef) (resources : List Resource) → flat_map class_in (of_classes classes ++ of_resources resources) ≡ classes
+page_classes classes resources =
+    only_first class_in (of_classes classes) (of_resources resources) classes
+    (flat_over class_in (OfClass 0) (λ class. class ∷ []) (λ class. refl) classes ∙ flat_itself classes)
+    (flat_none class_in OfResource (λ resource. refl) resources)
+
+pub page_resources : (classes : List ClassDef) (resources : List Resource) → flat_map resource_in (of_classes classes ++ of_resources resources) ≡ resources
+page_resources classes resources =
+    only_second resource_in (of_classes classes) (of_resources resources) resources
+    (flat_none resource_in (OfClass 0) (λ class. refl) classes)
+    (flat_over resource_in OfResource (λ resource. resource ∷ []) (λ resource. refl) resources ∙ flat_itself resources)
+
 pub page_is_said : (page : Page) → AllByRecursion HasContent page.resources → IsPageOf (canonical_page_lines page) page
 page_is_said page contents =
     record {
       declarations = of_classes page.classes ++ of_resources page.resources;
       lines_are = page_lines_are page;
-      classes = only_first class_in (of_classes page.classes) (of_resources page.resources) page.classes
-          (flat_over class_in (OfClass 0) (λ class. class ∷ []) (λ class. refl) page.classes ∙ flat_itself page.classes)
-          (flat_none class_in OfResource (λ resource. refl) page.resources);
-      resources = only_second resource_in (of_classes page.classes) (of_resources page.resources) page.resources
-          (flat_none resource_in (OfClass 0) (λ class. refl) page.classes)
-          (flat_over resource_in OfResource (λ resource. resource ∷ []) (λ resource. refl) page.resources ∙ flat_itself page.resources);
+      classes = page_classes page.classes page.resources;
+      resources = page_resources page.classes page.resources;
       contents = contents;
     }
 
@@ -107,23 +115,31 @@ plugin_lines_are plugin =
     ∙ ap (λ (l : List Line). l ++ flat_map declaration_lines last) (flat_over declaration_lines (OfClass 0) (class_lines 0) (λ class. refl) plugin.classes)
     ∙ ap (λ (l : List Line). flat_map (class_lines 0) plugin.classes ++ l) (last_declarations plugin.handlers plugin.tasks)))
 
+pub plugin_classes : (classes : List ClassDef) (handlers : List HandlerDef) (tasks : List TaskDef) → flat_map class_in (of_classes classes ++ (of_handlers handlers ++ of_tasks tasks)) ≡ classes
+plugin_classes classes handlers tasks =
+    only_first class_in (of_classes classes) (of_handlers handlers ++ of_tasks tasks) classes
+    (flat_over class_in (OfClass 0) (λ class. class ∷ []) (λ class. refl) classes ∙ flat_itself classes)
+    (only_first class_in (of_handlers handlers) (of_tasks tasks) [] (flat_none class_in OfHandler (λ handler. refl) handlers) (flat_none class_in OfTask (λ task. refl) tasks))
+
+pub plugin_tasks : (classes : List ClassDef) (handlers : List HandlerDef) (tasks : List TaskDef) → flat_map task_in (of_classes classes ++ (of_handlers handlers ++ of_tasks tasks)) ≡ tasks
+plugin_tasks classes handlers tasks =
+    only_second task_in (of_classes classes) (of_handlers handlers ++ of_tasks tasks) tasks
+    (flat_none task_in (OfClass 0) (λ class. refl) classes)
+    (only_second task_in (of_handlers handlers) (of_tasks tasks) tasks
+    (flat_none task_in OfHandler (λ handler. refl) handlers)
+    (flat_over task_in OfTask (λ task. task ∷ []) (λ task. refl) tasks ∙ flat_itself tasks))
+
 pub plugin_is_said : (plugin : Plugin) → IsPluginOf (canonical_plugin_lines plugin) plugin
 plugin_is_said plugin =
     let last : List Declaration = of_handlers plugin.handlers ++ of_tasks plugin.tasks in
     record {
       declarations = of_classes plugin.classes ++ last;
       lines_are = plugin_lines_are plugin;
-      classes = only_first class_in (of_classes plugin.classes) last plugin.classes
-          (flat_over class_in (OfClass 0) (λ class. class ∷ []) (λ class. refl) plugin.classes ∙ flat_itself plugin.classes)
-          (only_first class_in (of_handlers plugin.handlers) (of_tasks plugin.tasks) [] (flat_none class_in OfHandler (λ handler. refl) plugin.handlers) (flat_none class_in OfTask (λ task. refl) plugin.tasks));
+      classes = plugin_classes plugin.classes plugin.handlers plugin.tasks;
       handlers = only_second handler_in (of_classes plugin.classes) last plugin.handlers
           (flat_none handler_in (OfClass 0) (λ class. refl) plugin.classes)
           (only_first handler_in (of_handlers plugin.handlers) (of_tasks plugin.tasks) plugin.handlers
           (flat_over handler_in OfHandler (λ handler. handler ∷ []) (λ handler. refl) plugin.handlers ∙ flat_itself plugin.handlers)
           (flat_none handler_in OfTask (λ task. refl) plugin.tasks));
-      tasks = only_second task_in (of_classes plugin.classes) last plugin.tasks
-          (flat_none task_in (OfClass 0) (λ class. refl) plugin.classes)
-          (only_second task_in (of_handlers plugin.handlers) (of_tasks plugin.tasks) plugin.tasks
-          (flat_none task_in OfHandler (λ handler. refl) plugin.handlers)
-          (flat_over task_in OfTask (λ task. task ∷ []) (λ task. refl) plugin.tasks ∙ flat_itself plugin.tasks));
+      tasks = plugin_tasks plugin.classes plugin.handlers plugin.tasks;
     }

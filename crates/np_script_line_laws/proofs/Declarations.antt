@@ -28,15 +28,15 @@ use Rattle.np_script_line_laws.proofs.Blocks.{IsBlock, IsBehind, behind, to_top,
 
 -- ---- bodies
 
-not_end : (action : Action) → bytes_eq (action_line action).0 (codes "end") ≡ false
+pub not_end : (action : Action) → bytes_eq (action_line action).0 (codes "end") ≡ false
 not_end actions.Fail = refl
 not_end action = refl
 
 -- a body's actions, and its end
-abbrev body_rest : List Action → List Line
+abbrev pub body_rest : List Action → List Line
 body_rest body = map action_line body ++ alone (codes "end") ∷ []
 
-member_body_leads : (body : List Action) → Leads MemberBody (body_rest body) Class
+pub member_body_leads : (body : List Action) → Leads MemberBody (body_rest body) Class
 member_body_leads [] = (tt, refl)
 member_body_leads (action ∷ body) =
     (tt, subst (λ (t : Bool). Leads (if t then Class else MemberBody) (body_rest body) Class) (sym (not_end action)) (member_body_leads body))
@@ -105,17 +105,17 @@ abbrev data_line : Line
 data_line = alone (codes "data")
 
 -- with so many actions more
-abbrev counted_actions : Counts → List Action → Counts
+abbrev pub counted_actions : Counts → List Action → Counts
 counted_actions c [] = c
 counted_actions c (action ∷ body) = counted_actions (record c { actions = c.actions + 1 }) body
 
-abbrev with_action : Counts → Counts
+abbrev pub with_action : Counts → Counts
 with_action c = record c { actions = c.actions + 1 }
 
 behind_action : (c : Counts) (top keys : List (List ℕ)) (action : Action) → standing_after (at MemberBody c top keys) (action_line action) ≡ at MemberBody (with_action c) top keys
 behind_action c top keys action = ap (λ (t : Bool). at (if t then Class else MemberBody) (if t then c else with_action c) top keys) (not_end action)
 
-behind_body : (c : Counts) (top keys : List (List ℕ)) (body : List Action) → standing_behind (at MemberBody c top keys) (body_rest body) ≡ at Class (counted_actions c body) top keys
+pub behind_body : (c : Counts) (top keys : List (List ℕ)) (body : List Action) → standing_behind (at MemberBody c top keys) (body_rest body) ≡ at Class (counted_actions c body) top keys
 behind_body c top keys [] = refl
 behind_body c top keys (action ∷ body) =
     ap (λ (s : Standing). standing_behind s (body_rest body)) (behind_action c top keys action) ∙ behind_body (with_action c) top keys body
@@ -129,17 +129,17 @@ body_elsewhere side c top keys others (action ∷ body) all = (
       (body_elsewhere side (with_action c) top keys others body (subst (λ (s : Standing). AreInOrder side s (body_rest body)) (behind_action c top keys action) all.1)),
 )
 
-abbrev with_member : Counts → Counts
+abbrev pub with_member : Counts → Counts
 with_member c = record c { members = c.members + 1; actions = 0 }
 
 behind_opening : (c : Counts) (top keys : List (List ℕ)) (member : Member) → standing_after (at Class c top keys) (member_opening member) ≡ at MemberBody (with_member c) top (keys ++ declared_by (member_opening member) ∷ [])
 behind_opening c top keys (members.Default body) = refl
 behind_opening c top keys member = refl
 
-abbrev counted_member : Counts → Member → Counts
+abbrev pub counted_member : Counts → Member → Counts
 counted_member c member = counted_actions (with_member c) (member_body member)
 
-behind_member : (c : Counts) (top keys : List (List ℕ)) (member : Member) → standing_behind (at Class c top keys) (member_lines member) ≡ at Class (counted_member c member) top (keys ++ declared_by (member_opening member) ∷ [])
+pub behind_member : (c : Counts) (top keys : List (List ℕ)) (member : Member) → standing_behind (at Class c top keys) (member_lines member) ≡ at Class (counted_member c member) top (keys ++ declared_by (member_opening member) ∷ [])
 behind_member c top keys member =
     ap (λ (s : Standing). standing_behind s (body_rest (member_body member))) (behind_opening c top keys member)
     ∙ behind_body (with_member c) top (keys ++ declared_by (member_opening member) ∷ []) (member_body member)
@@ -159,7 +159,7 @@ not_data : (member : Member) → Absent (declared_by (member_opening member)) (c
 not_data (members.Default body) = refl
 not_data member = refl
 
-few_member : (side : Side) (c : Counts) (top keys : List (List ℕ)) (member : Member) → are_few c ≡ true → AreInOrder side (at Class c top keys) (member_lines member) → are_few (counted_member c member) ≡ true
+pub few_member : (side : Side) (c : Counts) (top keys : List (List ℕ)) (member : Member) → are_few c ≡ true → AreInOrder side (at Class c top keys) (member_lines member) → are_few (counted_member c member) ≡ true
 few_member side c top keys member few all =
     subst (λ (s : Standing). are_few s.counts ≡ true) (behind_member c top keys member) (stays_few side (at Class c top keys) (member_lines member) all few)
 
@@ -214,7 +214,7 @@ rest_first side c top keys before true ms rest leads few all =
     (data_first side Top c top keys (take before ms) behind_data (leads_on Class (flat_map member_lines (drop before ms)) rest Class Top (members_lead (drop before ms)) leads) few all)
 rest_first side c top keys before false ms rest leads few all = subst (AreInOrder side (at Class c top keys)) (all_members before ms rest) all
 
-class_first : (side : Side) (c : Counts) (top keys : List (List ℕ)) (before : ℕ) (class : ClassDef) → AreInOrder side (at Top c top keys) (class_lines before class) → AreInOrder side (at Top c top keys) (class_lines 0 class)
+pub class_first : (side : Side) (c : Counts) (top keys : List (List ℕ)) (before : ℕ) (class : ClassDef) → AreInOrder side (at Top c top keys) (class_lines before class) → AreInOrder side (at Top c top keys) (class_lines 0 class)
 class_first side c top keys before class all =
     (all.0, rest_first side _ (top ++ declared_by (class_opening class) ∷ []) [] before class.stored class.members (alone (codes "endclass") ∷ []) (tt, refl) all.0.few all.1)
 

@@ -23,10 +23,10 @@ use Rattle.np_script_line_laws.proofs.Blocks.{IsBehind, AtTop, behind, to_top, f
 use Rattle.np_script_line_laws.proofs.Declarations.{opening, inner, lines_of_block, block_of, with_data_first}
 
 -- the lines of declarations
-abbrev all_lines : List Declaration → List Line
+abbrev pub all_lines : List Declaration → List Line
 all_lines ds = flat_map declaration_lines ds
 
-behind_declaration : (side : Side) (c : Counts) (top keys : List (List ℕ)) (d : Declaration) → Few c → AreInOrder side (at Top c top keys) (declaration_lines d)
+pub behind_declaration : (side : Side) (c : Counts) (top keys : List (List ℕ)) (d : Declaration) → Few c → AreInOrder side (at Top c top keys) (declaration_lines d)
     → IsBehind c top (opening d) (standing_behind (at Top c top keys) (declaration_lines d))
 behind_declaration side c top keys d few all =
     let s : Standing = at Top c top keys in
@@ -159,7 +159,7 @@ no_others side c top keys (d ∷ ds) rest few all =
 
 -- ---- canonical order
 
-first_few : Few no_counts
+pub first_few : Few no_counts
 first_few = few_parts no_counts refl
 
 page_gathered : (ds : List Declaration) (classes : List ClassDef) (resources : List Resource) → flat_map class_in ds ≡ classes → flat_map resource_in ds ≡ resources → HasNoOthers sides.Page ds

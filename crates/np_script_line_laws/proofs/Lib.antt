@@ -9,3 +9,4 @@ pub mod Below
 pub mod Blocks
 pub mod Declarations
 pub mod Gathering
+pub mod Kept

@@ -1,4 +1,5 @@
 ghost use Rattle.np_script_line_laws.specs.Laws.{CanonicalLinesSayPages, CanonicalLinesSayPlugins, CanonicalPagesAreInOrder, CanonicalPluginsAreInOrder, PrefixesAreInOrder, LinesCanBeCompleted};
+ghost use Rattle.np_script_line_laws.specs.Limits.{PagesKeepLimits, PluginsKeepLimits};
 
 /// The canonical lines of a page say that page.
 pub fn canonical_lines_say_pages()
@@ -28,4 +29,14 @@ pub fn prefixes_are_in_order()
 /// Lines that are in order can be continued, to a place where a script may end.
 pub fn lines_can_be_completed()
     ensures law { LinesCanBeCompleted }
+{}
+
+/// A page that keeps the rules of the grammar has no more than its limits allow, and nothing twice.
+pub fn pages_keep_limits()
+    ensures law { PagesKeepLimits }
+{}
+
+/// A plug-in that keeps the rules of the grammar has no more than its limits allow, and nothing twice.
+pub fn plugins_keep_limits()
+    ensures law { PluginsKeepLimits }
 {}
