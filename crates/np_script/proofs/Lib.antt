@@ -3,3 +3,4 @@ pub mod NoFields
 pub mod LineKinds
 pub mod WholeTexts
 pub mod OneValue
+pub mod Deciding

@@ -14,7 +14,7 @@ use Rattle.np_script_grammar.specs.Forms.{Line}
 use Rattle.np_script_grammar.specs.Scripts.{place_behind, IsPageOf, IsPluginOf}
 use Rattle.np_script_grammar.specs.Order.{Standing, at_first, standing_after, MayFollow, AreInOrder}
 use Rattle.np_script_grammar.specs.Grammar.{AreLinesOf, IsPageScript, IsPluginScript, KeepsPageRules, KeepsPluginRules, script_limit}
-use Rattle.np_script_grammar.specs.Refusals.{standing_behind, AreScript, Begins, IsRefusedLine, FirstError}
+use Rattle.np_script_grammar.specs.Refusals.{standing_behind, AreScript, Begins, IsRefusedLine, IsCutOff, FirstError}
 use Rattle.np_script_line_laws.specs.Laws.{last_place, CanonicalPagesAreInOrder, CanonicalPluginsAreInOrder}
 use Rattle.np_script_text_laws.specs.Laws.{TextsCanBeCompleted, RefusedLinesEnd, OneSay, OneRefusal}
 use Rattle.np_script_builder.specs.declared.state.Building.{Building}
@@ -36,11 +36,11 @@ pub record Builds : Type 0 where
   pub pages : BuiltPages
   pub plugins : BuiltPlugins
 
-whole : Builds → (side : Side) (lines : List Line) → AreInOrder side at_first lines → place_behind Head lines ≡ last_place side → AreScript side lines
+pub whole : Builds → (side : Side) (lines : List Line) → AreInOrder side at_first lines → place_behind Head lines ≡ last_place side → AreScript side lines
 whole laws sides.Page lines all place = let b = laws.in_order sides.Page lines all in (page_in b.0, laws.pages lines b.0 all place b.1)
 whole laws sides.Plug lines all place = let b = laws.in_order sides.Plug lines all in (plugin_in b.0, laws.plugins lines b.0 all place b.1)
 
-begins : Builds → TextsCanBeCompleted → (side : Side) (text : List (List ℕ)) (lines : List Line) → AreLinesOf side text lines → Begins side text
+pub begins : Builds → TextsCanBeCompleted → (side : Side) (text : List (List ℕ)) (lines : List Line) → AreLinesOf side text lines → Begins side text
 begins laws complete side text lines are =
     let more = complete side text lines are in
     record { more = more.0; lines = more.1; are_lines = more.2; whole = whole laws side more.1 more.2.in_order more.3 }
@@ -74,7 +74,7 @@ nothing-read side bytes reader fresh = record {
   few = omega (arith, fresh.count);
 }
 
-regrouped : {A : Type 0} (xs : List A) (x : A) (ys : List A) → xs ++ x ∷ ys ≡ (xs ++ x ∷ []) ++ ys
+pub regrouped : {A : Type 0} (xs : List A) (x : A) (ys : List A) → xs ++ x ∷ ys ≡ (xs ++ x ∷ []) ++ ys
 regrouped [] x ys = refl
 regrouped (y ∷ xs) x ys = ap (λ t. y ∷ t) (regrouped xs x ys)
 
@@ -92,23 +92,29 @@ line-read side bytes left line rest order order1 building building1 lines lines1
   few = omega (arith, so.few, shorter, more);
 }
 
+-- a line of a text that has a kind of refusal
+pub is-refused : Builds → TextsCanBeCompleted → RefusedLinesEnd → (side : Side) (text behind : List (List ℕ)) (line : List ℕ) (lines : List Line) (number : ℕ) (kind : ScriptKind) → AreLinesOf side text lines
+    → Refuses side (standing_behind at_first lines) line kind → number ≡ length text + 1 → IsRefusedLine side (text ++ line ∷ behind) (record { line = number; kind = kind })
+is-refused laws complete end side text behind line lines number kind are refuses count = record {
+  before = text;
+  line = line;
+  behind = behind;
+  lines = lines;
+  text_is = refl;
+  number = count;
+  begins = begins laws complete side text lines are;
+  no_further = end side text lines line kind are refuses.counts refuses.is_kind;
+  so_far = are;
+  kind = refuses.is_kind;
+}
+
 -- the rest is lines of text behind the line
 pub line-refused : Builds → TextsCanBeCompleted → RefusedLinesEnd → (side : Side) (bytes left line rest : List ℕ) (order : Standing) (building : Building) (lines lines1 : ℕ) (kind : ScriptKind)
     → ReadSoFar side bytes left order building lines → lines_of left ≡ line ∷ lines_of rest → lines1 ≡ lines + 1 → Refuses side order line kind → IsRefusedLine side (lines_of bytes) (record { line = lines1; kind = kind })
 line-refused laws complete end side bytes left line rest order building lines lines1 kind so e more refuses =
     let refused : Refuses side (standing_behind at_first so.read.lines) line kind = subst (λ (s : Standing). Refuses side s line kind) so.read.standing refuses in
-    record {
-      before = so.text;
-      line = line;
-      behind = lines_of rest;
-      lines = so.read.lines;
-      text_is = so.parts ∙ ap (λ t. so.text ++ t) e;
-      number = more ∙ ap (λ (n : ℕ). n + 1) so.count;
-      begins = begins laws complete side so.text so.read.lines so.read.are_lines;
-      no_further = end side so.text so.read.lines line kind so.read.are_lines refused.counts refused.is_kind;
-      so_far = so.read.are_lines;
-      kind = refused.is_kind;
-    }
+    subst (λ (t : List (List ℕ)). IsRefusedLine side t (record { line = lines1; kind = kind })) (sym (so.parts ∙ ap (λ t. so.text ++ t) e))
+    (is-refused laws complete end side so.text (lines_of rest) line so.read.lines lines1 kind so.read.are_lines refused (more ∙ ap (λ (n : ℕ). n + 1) so.count))
 
 -- the answer that a line is refused
 pub refusal : (side : Side) (order order1 : Standing) (building building1 : Building) (line : List ℕ) (e : LineError) (kind : ScriptKind) → e ≡ errors.Refused kind → ReadsLine side order building line order1 building1 (Err e) → Refuses side order line kind
@@ -130,7 +136,7 @@ line-took side bytes left line rest order order1 building building1 lines e is s
       takes = subst (λ (s : Standing). WordsTakeMemory side s (words_of line)) so.read.standing ran.1;
     }
 
-append-nothing : {A : Type 0} (xs : List A) → xs ++ [] ≡ xs
+pub append-nothing : {A : Type 0} (xs : List A) → xs ++ [] ≡ xs
 append-nothing [] = refl
 append-nothing (x ∷ xs) = ap (λ t. x ∷ t) (append-nothing xs)
 
@@ -178,18 +184,23 @@ ends-well : PagesAreBuilt → PluginsAreBuilt → (side : Side) (lines : List Li
 ends-well pages plugins sides.Page lines all script = (pages lines script.0 all script.1).0
 ends-well pages plugins sides.Plug lines all script = (plugins lines script.0 all script.1).0
 
+-- lines after which a script can't end
+pub is-cut-off : Builds → PagesAreBuilt → PluginsAreBuilt → TextsCanBeCompleted → OneSay → (side : Side) (text : List (List ℕ)) (lines : List Line) (number : ℕ) → AreLinesOf side text lines
+    → (place_behind Head lines ≡ last_place side → ⊥) → number ≡ length text + 1 → IsCutOff side text (record { line = number; kind = kinds.End })
+is-cut-off laws pages plugins complete one side text lines number are place count = record {
+  begins = begins laws complete side text lines are;
+  unfinished = λ others alike script.
+      let same : lines ≡ others = one side text lines others are alike in
+      place (ap (place_behind Head) same ∙ ends-well pages plugins side others alike.in_order script);
+  number = count;
+  kind = refl;
+}
+
 pub cut-off : Builds → PagesAreBuilt → PluginsAreBuilt → TextsCanBeCompleted → OneSay → (side : Side) (bytes : List ℕ) (reader : Reader) (number : ℕ) → length bytes ≤ script_limit → HasReadAll side bytes reader
     → (reader.order.place ≡ last_place side → ⊥) → number ≡ reader.lines + 1 → FirstError side bytes (record { line = number; kind = kinds.End })
 cut-off laws pages plugins complete one side bytes reader number short all place more = inr (
   short,
-  inr (record {
-    begins = begins laws complete side (lines_of bytes) all.read.lines all.read.are_lines;
-    unfinished = λ lines are script.
-        let same : all.read.lines ≡ lines = one side (lines_of bytes) all.read.lines lines all.read.are_lines are in
-        place (end-place side bytes reader all ∙ ap (place_behind Head) same ∙ ends-well pages plugins side lines are.in_order script);
-    number = more ∙ ap (λ (n : ℕ). n + 1) all.count;
-    kind = refl;
-  }),
+  inr (is-cut-off laws pages plugins complete one side (lines_of bytes) all.read.lines number all.read.are_lines (λ last. place (end-place side bytes reader all ∙ last)) (more ∙ ap (λ (n : ℕ). n + 1) all.count)),
 )
 
 pub too-long : (side : Side) (bytes : List ℕ) → script_limit < length bytes → FirstError side bytes (record { line = 0; kind = kinds.Size })

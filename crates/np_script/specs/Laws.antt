@@ -1,5 +1,5 @@
 -- What holds of scripts and their canonical texts.
-use Rattle.std.specs.Prelude.{◌≡◌, ◌≤◌, ℕ, List, length}
+use Rattle.std.specs.Prelude.{◌≡◌, ◌⊎◌, ◌≤◌, ℕ, List, length}
 use Rattle.np_values.specs.declared.name.Side.TheVariants as sides
 use Rattle.np_script_grammar.specs.declared.page.Page.{Page}
 use Rattle.np_script_grammar.specs.declared.plugin.Plugin.{Plugin}
@@ -15,6 +15,14 @@ OnePage = (bytes : List ℕ) (page other : Page) → IsPageScript bytes page →
 -- Bytes say one plug-in.
 abbrev pub OnePlugin : Type 0
 OnePlugin = (bytes : List ℕ) (plugin other : Plugin) → IsPluginScript bytes plugin → IsPluginScript bytes other → plugin ≡ other
+
+-- Bytes are a page script, or have a first error.
+abbrev pub PagesAreDecided : Type 0
+PagesAreDecided = (bytes : List ℕ) → ((page : Page) × IsPageScript bytes page) ⊎ ((e : ScriptError) × FirstError sides.Page bytes e)
+
+-- Bytes are a plug-in script, or have a first error.
+abbrev pub PluginsAreDecided : Type 0
+PluginsAreDecided = (bytes : List ℕ) → ((plugin : Plugin) × IsPluginScript bytes plugin) ⊎ ((e : ScriptError) × FirstError sides.Plug bytes e)
 
 -- Bytes that are refused aren't a script.
 abbrev pub NoPageIsRefused : Type 0

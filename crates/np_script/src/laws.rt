@@ -1,13 +1,17 @@
 //! What holds of scripts and their canonical texts.
-ghost use Rattle.np_script.specs.Laws.{OnePage, OnePlugin, NoPageIsRefused, NoPluginIsRefused, PageScriptsKeepRules, PluginScriptsKeepRules, PageScriptsKeepLimits, PluginScriptsKeepLimits, CanonicalPagesAreScripts, CanonicalPluginsAreScripts, OneCanonicalPage, OneCanonicalPlugin, CommandsAreFew};
+ghost use Rattle.np_script.specs.Laws.{OnePage, OnePlugin, PagesAreDecided, PluginsAreDecided, NoPageIsRefused, NoPluginIsRefused, PageScriptsKeepRules, PluginScriptsKeepRules, PageScriptsKeepLimits, PluginScriptsKeepLimits, CanonicalPagesAreScripts, CanonicalPluginsAreScripts, OneCanonicalPage, OneCanonicalPlugin, CommandsAreFew};
 
-use np_script_builder::{pages_are_built, plugins_are_built};
+use np_script_builder::{
+    built_pages, built_plugins, lines_in_order_are_built, pages_are_built, plugins_are_built,
+};
 use np_script_line_laws::{
     canonical_lines_say_pages, canonical_lines_say_plugins, canonical_pages_are_in_order,
     canonical_plugins_are_in_order, pages_keep_limits, plugins_keep_limits,
 };
 use np_script_text_laws::{
-    lines_are_few, one_say, refused_texts_are_no_scripts, texts_have_their_lines,
+    lines_are_few, lines_are_judged, lines_go_on, one_say, refused_lines_end,
+    refused_texts_are_no_scripts, skipped_lines_go_on, texts_can_be_completed,
+    texts_have_their_lines,
 };
 
 /// Bytes say at most one page.
@@ -24,6 +28,40 @@ pub fn one_plugin()
 {
     one_say();
     plugins_are_built();
+}
+
+/// Bytes are a page script, or have a first error.
+pub fn pages_are_decided()
+    ensures law { PagesAreDecided }
+{
+    built_pages();
+    built_plugins();
+    lines_in_order_are_built();
+    pages_are_built();
+    plugins_are_built();
+    texts_can_be_completed();
+    one_say();
+    lines_are_judged();
+    lines_go_on();
+    skipped_lines_go_on();
+    refused_lines_end();
+}
+
+/// Bytes are a plug-in script, or have a first error.
+pub fn plugins_are_decided()
+    ensures law { PluginsAreDecided }
+{
+    built_pages();
+    built_plugins();
+    lines_in_order_are_built();
+    pages_are_built();
+    plugins_are_built();
+    texts_can_be_completed();
+    one_say();
+    lines_are_judged();
+    lines_go_on();
+    skipped_lines_go_on();
+    refused_lines_end();
 }
 
 /// Bytes that are refused are no page script.

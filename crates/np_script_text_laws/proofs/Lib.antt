@@ -1,3 +1,4 @@
+pub mod Judged
 pub mod TextLines
 pub mod OneSet
 pub mod Refused

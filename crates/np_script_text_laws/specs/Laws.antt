@@ -1,5 +1,5 @@
 -- What holds of the texts of all scripts and of their refusals.
-use Rattle.std.specs.Prelude.{◌≡◌, ◌≤◌, ℕ, List, [], ◌∷◌, ◌++◌, length, true, false}
+use Rattle.std.specs.Prelude.{◌≡◌, ◌⊎◌, ◌≤◌, ℕ, List, [], ◌∷◌, ◌++◌, length, true, false}
 use Rattle.np_values.specs.declared.name.Side.{Side}
 use Rattle.np_script_grammar.specs.declared.refusal.ScriptKind.{ScriptKind}
 use Rattle.np_script_grammar.specs.declared.refusal.ScriptError.{ScriptError}
@@ -7,7 +7,7 @@ use Rattle.np_script_grammar.specs.declared.place.Place.TheVariants.{Head}
 use Rattle.np_script_grammar.specs.Words.{lines_of, is_line, words_of, is_skipped}
 use Rattle.np_script_grammar.specs.Forms.{Line, line_words}
 use Rattle.np_script_grammar.specs.Scripts.{place_behind}
-use Rattle.np_script_grammar.specs.Order.{at_first, MayFollow, AreInOrder}
+use Rattle.np_script_grammar.specs.Order.{Standing, at_first, MayFollow, AreInOrder}
 use Rattle.np_script_grammar.specs.Grammar.{AreLinesOf, text_of_lines}
 use Rattle.np_script_grammar.specs.Refusals.{standing_behind, Begins, IsKind, AreScript, FirstError}
 use Rattle.np_script_line_laws.specs.Laws.{last_place}
@@ -15,6 +15,17 @@ use Rattle.np_script_line_laws.specs.Laws.{last_place}
 -- The lines of a text say one thing.
 abbrev pub OneSay : Type 0
 OneSay = (side : Side) (text : List (List ℕ)) (lines others : List Line) → AreLinesOf side text lines → AreLinesOf side text others → lines ≡ others
+
+-- the line says one that may come next
+pub record ComesNext (side : Side) (s : Standing) (next : List ℕ) : Type 0 where
+  pub line : Line
+  pub plain : is_line next ≡ true
+  pub says : words_of next ≡ line_words line
+  pub may : MayFollow side s line
+
+-- A line that isn't skipped may come next, or has a kind of refusal.
+abbrev pub LinesAreJudged : Type 0
+LinesAreJudged = (side : Side) (s : Standing) (next : List ℕ) → (is_line next ≡ true → is_skipped (words_of next) ≡ false) → ComesNext side s next ⊎ ((kind : ScriptKind) × IsKind side s next kind)
 
 -- A text continues with a line that may come next.
 abbrev pub LinesGoOn : Type 0

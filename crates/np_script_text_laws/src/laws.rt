@@ -1,10 +1,17 @@
-ghost use Rattle.np_script_text_laws.specs.Laws.{OneSay, LinesGoOn, SkippedLinesGoOn, RefusedLinesEnd, TextsCanBeCompleted, TextsHaveTheirLines, LinesAreFew, OneRefusal, RefusedTextsAreNoScripts};
+ghost use Rattle.np_script_text_laws.specs.Laws.{OneSay, LinesAreJudged, LinesGoOn, SkippedLinesGoOn, RefusedLinesEnd, TextsCanBeCompleted, TextsHaveTheirLines, LinesAreFew, OneRefusal, RefusedTextsAreNoScripts};
 
 /// The lines of a text say one thing.
 pub fn one_say()
     ensures law { OneSay }
 {
     np_script_words::one_line();
+}
+
+/// A line that isn't skipped may come next, or has a kind of refusal.
+pub fn lines_are_judged()
+    ensures law { LinesAreJudged }
+{
+    np_script_words::fields_are_decided();
 }
 
 /// A text continues with a line that may come next.

@@ -20,3 +20,4 @@ pub mod WordLaws
 pub mod OneReading
 pub mod SpacedLines
 pub mod LineLaws
+pub mod Deciding

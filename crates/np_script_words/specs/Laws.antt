@@ -1,5 +1,5 @@
 -- What holds of the words of fields.
-use Rattle.std.specs.Prelude.{◌≡◌, ◌<◌, ℕ, List, [], ◌∷◌, ◌++◌, length, map, Bool, true, nat_lt, Some}
+use Rattle.std.specs.Prelude.{◌≡◌, ◌<◌, ℕ, List, [], ◌∷◌, ◌++◌, length, map, ◌⊎◌, Bool, true, nat_lt, Some}
 use Rattle.std.specs.List.{list_all}
 use Rattle.np_script_grammar.specs.declared.line.Item.{Item}
 use Rattle.np_script_grammar.specs.declared.line.Item.TheVariants.{Number}
@@ -39,6 +39,11 @@ SpacedWords = (items : List Item) (fields : List Field) → list_all is_typed it
 abbrev pub OneReading : Type 0
 OneReading = (form : Form) (fields others : List Field) → list_all is_typed form.items ≡ true → list_all is_typed form.group ≡ true
     → HasForm form fields → HasForm form others → map field_word fields ≡ map field_word others → fields ≡ others
+
+-- words spell fields of a form, or spell none
+abbrev pub FieldsAreDecided : Type 0
+FieldsAreDecided = (form : Form) (words : List (List ℕ))
+    → ((fields : List Field) × (words ≡ map field_word fields) × HasForm form fields) ⊎ ((fields : List Field) → words ≡ map field_word fields → ¬ HasForm form fields)
 
 -- the word may stand at this place, and the fields are of its form
 pub record HasFormAt (side : Side) (place : Place) (line : Line) : Type 0 where

@@ -1,5 +1,5 @@
 -- What a reader answers of a word.
-use Rattle.std.specs.Prelude.{◌≡◌, ℕ, ◌==◌, ◌||◌, List, length, Bool, true, nat_lt, nat_le, Result, Ok, Err}
+use Rattle.std.specs.Prelude.{◌≡◌, ℕ, List, length, Bool, true, nat_lt, nat_le, Result, Ok, Err}
 use Rattle.std.specs.Global.{Vec}
 use Rattle.std.specs.Str.{is_utf8}
 use Rattle.np_values.specs.declared.value.Value.{Value}

@@ -1,5 +1,5 @@
 //! What holds of the words of fields.
-ghost use Rattle.np_script_words.specs.Laws.{OneField, OneWord, PlainWord, SpacedWords, OneReading, OneLine, SpacedLine};
+ghost use Rattle.np_script_words.specs.Laws.{OneField, OneWord, PlainWord, SpacedWords, OneReading, FieldsAreDecided, OneLine, SpacedLine};
 
 /// A word spells at most one field of an item.
 pub fn one_field()
@@ -24,6 +24,11 @@ pub fn spaced_words()
 /// Two lists of fields of one form that are spelled by the same words are the same.
 pub fn one_reading()
     ensures law { OneReading }
+{}
+
+/// Words spell the fields of a form, or they spell none of it.
+pub fn fields_are_decided()
+    ensures law { FieldsAreDecided }
 {}
 
 /// What is said at a place of a script is said by its words: two lines of the same words are the same.

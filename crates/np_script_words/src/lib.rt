@@ -18,7 +18,10 @@ pub use error::FieldError;
 pub use field::read_field;
 pub use fields::read_fields;
 pub use form::Form;
-pub use laws::{one_field, one_line, one_reading, one_word, plain_word, spaced_line, spaced_words};
+pub use laws::{
+    fields_are_decided, one_field, one_line, one_reading, one_word, plain_word, spaced_line,
+    spaced_words,
+};
 pub use line::{is_plain_line, next_word};
 pub use np_script_grammar::Fields;
 pub use number::{read_int, read_number, read_register};
