@@ -4,6 +4,7 @@ use Rattle.np_message.specs.Message.{Message}
 use Rattle.np_message.specs.Encoding.{encoding, encodings}
 use Rattle.np_message.specs.Rules.{AreMessages, KeepsFormat, IsTyped}
 use Rattle.np_wire_decode.specs.Reading.{needs_memory}
+use Rattle.np_wire.specs.Feed.{HasWholeBody}
 use Rattle.np_model.specs.Side.{SideState, Micro}
 use Rattle.np_model.specs.Run.{Pace, Acts, Awaits, HasEnded, Accepts, endpoint_run}
 use Rattle.np_model.specs.Steps.{sent_by, printed_by}
@@ -36,10 +37,10 @@ pub record MakesOfNext {C : Type 0} (role : Role C) (side : SideState C) (left r
   pub accepts : role.plans.meet side message ≡ Accepts steps
   pub makes : MakeSomething steps
 
--- What takes memory is due at a side of this pace, where the bytes `left` are next and `rest` is unread: it makes something by itself; it reads what begins as a message with texts, bytes, values, lists or releases; or it makes something of the next message.
+-- What takes memory is due at a side of this pace, where the bytes `left` are next and `rest` is unread: it makes something by itself; it reads a whole body, of what begins as a message with texts, bytes, values, lists or releases; or it makes something of the next message.
 abbrev pub IsDue : {C : Type 0} → Role C → SideState C → List ℕ → List ℕ → Pace → Type 0
 IsDue role side left rest Acts = (rest ≡ left) × MakeSomething (role.plans.go side)
-IsDue role side left rest Awaits = ((rest ≡ left) × (needs_memory (drop 4 left) ≡ true)) ⊎ MakesOfNext role side left rest
+IsDue role side left rest Awaits = ((rest ≡ left) × HasWholeBody left × (needs_memory (drop 4 left) ≡ true)) ⊎ MakesOfNext role side left rest
 IsDue role side left rest HasEnded = ⊥
 
 -- from the side p with these unread bytes, an end came to this control, where something that takes memory was due, and has `rest` unread

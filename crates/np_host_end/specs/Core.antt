@@ -8,6 +8,7 @@ use Rattle.np_message.specs.Encoding.{encoding, encodings}
 use Rattle.np_message.specs.Rules.{KeepsFormat, IsTyped}
 use Rattle.np_message.specs.Decoding.{Partial, front}
 use Rattle.np_wire_decode.specs.Reading.{needs_memory}
+use Rattle.np_wire.specs.Feed.{HasWholeBody}
 use Rattle.np_model.specs.Side.{Micro}
 use Rattle.np_model.specs.Run.{Meeting, Accepts, Refuses}
 use Rattle.np_model.specs.PagePlan.{PageControl, go_plan, meet_plan}
@@ -111,10 +112,11 @@ pub record RanOutMeeting (old new : Core) (meeting : Meeting PageControl) : Type
   pub control : control_of new ≡ control_of old
   pub makes : AcceptsToMake meeting
 
--- the next message was to be read, which takes memory
+-- the next message, of which the whole body is there, was to be read, which takes memory
 pub record RanOutReading (old new : Core) : Type 0 where
   pub control : control_of new ≡ control_of old
   pub feed : new.feed ≡ old.feed
+  pub whole : HasWholeBody old.feed.left
   pub needs : needs_memory (drop 4 old.feed.left) ≡ true
 
 -- the next message was taken off, and something was to be made of it

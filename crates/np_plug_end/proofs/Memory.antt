@@ -45,7 +45,7 @@ ran-out-listening old mid new a (inl r) c p same =
     record {
       left = mid.feed.left;
       came = came-still (plugin_role old.plugin) p old.feed.left mid.feed.left (control_of mid) (control_of new) r.control k;
-      due = subst (λ (x : Pace). IsDue (plugin_role old.plugin) k.side mid.feed.left new.feed.left x) (sym pace) (inl (ap (λ f. f.left) r.feed, r.needs));
+      due = subst (λ (x : Pace). IsDue (plugin_role old.plugin) k.side mid.feed.left new.feed.left x) (sym pace) (inl (ap (λ f. f.left) r.feed, r.whole, r.needs));
     }
 ran-out-listening old mid new a (inr r) c p same =
     let k = c.came p same in

@@ -7,6 +7,7 @@ use Rattle.np_message.specs.Encoding.{encoding, encodings}
 use Rattle.np_message.specs.Rules.{KeepsFormat, IsTyped}
 use Rattle.np_message.specs.Decoding.{Partial, front}
 use Rattle.np_wire_decode.specs.Reading.{needs_memory}
+use Rattle.np_wire.specs.Feed.{HasWholeBody}
 use Rattle.np_model.specs.Side.{Micro}
 use Rattle.np_model.specs.Run.{Accepts, Refuses}
 use Rattle.np_model.specs.PluginPlan.{PluginControl, serve_plan, plugin_meet}
@@ -63,10 +64,11 @@ pub record IsRefused (old new : Core) (r : Refusal) : Type 0 where
   pub plugin : new.plugin ≡ old.plugin
   pub refused : RefusedBy (plugin_meet old.plugin (control_of old)) old.feed.consumed r (front old.feed.consumed old.feed.left)
 
--- the next message was to be read, which takes memory
+-- the next message, of which the whole body is there, was to be read, which takes memory
 pub record RanOutReading (old new : Core) : Type 0 where
   pub control : control_of new ≡ control_of old
   pub feed : new.feed ≡ old.feed
+  pub whole : HasWholeBody old.feed.left
   pub needs : needs_memory (drop 4 old.feed.left) ≡ true
 
 -- the next message was taken off, and was to be served; the control stayed

@@ -12,7 +12,7 @@ use Rattle.np_wire_decode.specs.declared.unread.Broken.TheVariants as broken
 use Rattle.np_wire_decode.specs.Reading.{WantsOnly, needs_memory}
 use Rattle.np_wire.specs.declared.error.FeedError.{FeedError}
 use Rattle.np_wire.specs.declared.error.FeedError.TheVariants.{Wire, NoMemory}
-use Rattle.np_wire.specs.Feed.{FrontIs, SizedIs, FrontGives, SizedGives, IsEncoded, RefusesFirstFault, WantsMemoryOnly, RefusedAs}
+use Rattle.np_wire.specs.Feed.{FrontIs, SizedIs, FrontGives, SizedGives, IsEncoded, RefusesFirstFault, IsWholeBody, HasWholeBody, WantsMemoryOnly, RefusedAs}
 
 behind : (seen : Front) (bytes : List ℕ) (r : Result (Option (Message × ℕ)) FeedError) → SizedIs seen (drop 4 bytes) r → FrontIs seen bytes r
 behind seen bytes (Ok None) h = h
@@ -61,3 +61,18 @@ pub sized_memory : (X : Type 0) (at n : ℕ) (rest body : List ℕ) (b : Broken)
 sized_memory X at n rest body (broken.Item left) e low is refused h = subst (λ (y : FeedError). let s : Result X FeedError = Err y in WantsMemoryOnly (needs_memory rest ≡ true) s) (sym refused) tt
 sized_memory X at n rest body (broken.Rest left) e low is refused h = subst (λ (y : FeedError). let s : Result X FeedError = Err y in WantsMemoryOnly (needs_memory rest ≡ true) s) (sym refused) tt
 sized_memory X at n rest body broken.NoMemory e low is refused h = subst (λ (y : FeedError). let s : Result X FeedError = Err y in WantsMemoryOnly (needs_memory rest ≡ true) s) (sym refused) (needs_of_taken n rest low (ap needs_memory (sym is) ∙ h))
+
+-- what holds anyway holds where memory is wanted
+pub wants_anyway : {X : Type 0} {P : Type 0} → P → (r : Result X FeedError) → WantsMemoryOnly P r
+wants_anyway p (Ok x) = tt
+wants_anyway p (Err (Wire e)) = tt
+wants_anyway p (Err NoMemory) = p
+
+wants_less : {X : Type 0} {P Q : Type 0} → (P → Q) → (r : Result X FeedError) → WantsMemoryOnly P r → WantsMemoryOnly Q r
+wants_less f (Ok x) h = tt
+wants_less f (Err (Wire e)) h = tt
+wants_less f (Err NoMemory) h = f h
+
+-- the body after the length is that of the whole bytes
+pub whole_front : {X : Type 0} (n : ℕ) (bytes rest : List ℕ) (r : Result X FeedError) → 4 ≤ length bytes → n ≡ from_be_bytes w32 (take 4 bytes) → rest ≡ drop 4 bytes → WantsMemoryOnly (IsWholeBody n rest) r → WantsMemoryOnly (HasWholeBody bytes) r
+whole_front n bytes rest r long n-is rest-is h = wants_less (λ whole. (long, subst (λ (k : ℕ). IsWholeBody k (drop 4 bytes)) n-is (subst (λ (b : List ℕ). IsWholeBody n b) rest-is whole))) r h

@@ -1,8 +1,8 @@
 -- Any calls of a feed, one after another.
-use Rattle.std.proofs.Common.{◌≡◌, ℕ, ◌+◌, List, [], ◌∷◌, ◌++◌, length, refl, ap, sym, ◌∙◌, append_assoc, append-nil, arith}
+use Rattle.std.proofs.Common.{◌≡◌, ℕ, ◌+◌, List, [], ◌∷◌, ◌++◌, length, ap, sym, ◌∙◌, append_assoc, append-nil, arith}
 use Rattle.std.proofs.lemmas.List.{length-append}
 use Rattle.np_message.specs.Encoding.{encoding, encodings}
-use Rattle.np_wire.specs.Feed.{Fed, IsEncoded}
+use Rattle.np_wire.specs.Feed.{Fed}
 use Rattle.np_wire.specs.FeedRuns.{FeedCall, Pushed, Gave, Unchanged, Leads, pushed, given, GivesWhatWasPushed}
 
 -- what a feed has and what is pushed are the messages given, and what it has then

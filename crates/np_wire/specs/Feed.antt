@@ -6,6 +6,7 @@ use Rattle.np_message.specs.Encoding.{encoding}
 use Rattle.np_message.specs.Rules.{KeepsFormat, IsTyped}
 use Rattle.np_message.specs.Decoding.{Front, Partial, Whole, Bad, front, front_sized}
 use Rattle.np_message.specs.Faults.{IsFirstFault}
+use Rattle.np_wire_laws.specs.Laws.{length_of}
 use Rattle.np_wire_decode.specs.declared.unread.Broken.{Broken}
 use Rattle.np_wire_decode.specs.declared.unread.Broken.TheVariants as broken
 use Rattle.np_wire.specs.declared.error.FeedError.{FeedError}
@@ -34,6 +35,14 @@ abbrev pub WantsMemoryOnly : {X : Type 0} → Type 0 → Result X FeedError → 
 WantsMemoryOnly P (Ok x) = Unit {0}
 WantsMemoryOnly P (Err (Wire e)) = Unit {0}
 WantsMemoryOnly P (Err NoMemory) = P
+
+-- a body of this length is there as a whole, and the length is one of the format
+abbrev pub IsWholeBody : ℕ → List ℕ → Type 0
+IsWholeBody n rest = (4 ≤ n) × (n ≤ 32768) × (n ≤ length rest)
+
+-- the bytes begin with a length of the format and a whole body
+abbrev pub HasWholeBody : List ℕ → Type 0
+HasWholeBody bytes = (4 ≤ length bytes) × IsWholeBody (length_of bytes) (drop 4 bytes)
 
 -- a message with its number of bytes is what stands at the front
 abbrev pub FrontIs : Front → List ℕ → Result (Option (Message × ℕ)) FeedError → Type 0

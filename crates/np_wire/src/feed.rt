@@ -2,7 +2,7 @@
 
 ghost use Rattle.std.specs.Prelude.{◌≡◌, ◌+◌, ◌-◌, ◌<◌, ◌≤◌, ◌^◌, ◌++◌, [], true, drop, length, OnOk, OnErr, IfOk, IfSome};
 ghost use Rattle.np_wire_decode.specs.Reading.{needs_memory};
-ghost use Rattle.np_wire.specs.Feed.{Fed, NextGives, RefusesFirstFault, FrontGives, SizedGives, IsEncoded, WantsMemoryOnly, RefusedAs};
+ghost use Rattle.np_wire.specs.Feed.{Fed, NextGives, RefusesFirstFault, FrontGives, SizedGives, IsEncoded, IsWholeBody, HasWholeBody, WantsMemoryOnly, RefusedAs};
 
 use crate::FeedError;
 use np_message::{Message, WireError, WireKind};
@@ -58,13 +58,14 @@ impl Feed {
     }
 
     /// The next message, or `None` while more bytes have to come. Bytes that break the format stay where
-    /// they are, so a later call gives the same error, or runs out of memory. Only messages with texts, bytes, values,
-    /// lists or releases take memory.
+    /// they are, so a later call gives the same error, or runs out of memory. Only a body that is there as a whole takes memory,
+    /// of a message with texts, bytes, values, lists or releases.
     pub fn next(&mut self) -> Result<Option<Message>, FeedError>
         ensures exact { NextGives self.old self.new result }
         ensures found { IfOk result (λ next. IfSome next (λ m. IsEncoded m self.old.left self.new.left)) }
         ensures fault { RefusesFirstFault self.old.consumed self.old.left result }
         ensures memory { WantsMemoryOnly (needs_memory (drop 4 self.old.left) ≡ true) result }
+        ensures memory_whole { WantsMemoryOnly (HasWholeBody self.old.left) result }
     {
         match front(self.alloc, self.consumed, &self.bytes[self.start..])? {
             None => Ok(None),
@@ -100,6 +101,7 @@ fn front(alloc: Global, at: u64, bytes: &[u8]) -> Result<Option<(Message, usize)
     requires { at + length bytes.now < 2 ^ 64 }
     ensures front { FrontGives at bytes.now result }
     ensures memory { WantsMemoryOnly (needs_memory (drop 4 bytes.now) ≡ true) result }
+    ensures memory_whole { WantsMemoryOnly (HasWholeBody bytes.now) result }
     ensures size { IfOk result (λ next. IfSome next (λ m. m.1 ≤ length bytes.now)) }
     ensures found { IfOk result (λ next. IfSome next (λ m. IsEncoded m.0 bytes.now (drop m.1 bytes.now))) }
     ensures fault { RefusesFirstFault at bytes.now result }
@@ -142,6 +144,7 @@ fn sized(
     requires { at + 4 + length rest.now < 2 ^ 64 }
     ensures front { SizedGives at size rest.now result }
     ensures memory { WantsMemoryOnly (needs_memory rest.now ≡ true) result }
+    ensures memory_whole { WantsMemoryOnly (IsWholeBody size rest.now) result }
     ensures size { IfOk result (λ next. IfSome next (λ m. m.1 ≤ 4 + length rest.now)) }
 {
     if size < 4 || size > 32768 {
