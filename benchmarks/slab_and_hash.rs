@@ -250,6 +250,18 @@ fn accept_each(times: u32) {
     }
 }
 
+fn renew_each(times: u32) {
+    let names = names(Side::Page);
+    let mut imports = imports_of(&names);
+    for _ in 0..times {
+        for name in &names {
+            imports.unhold(*name);
+            imports.releases.clear();
+            accept_one(&mut imports, *name);
+        }
+    }
+}
+
 fn hold_proxies(times: u32) {
     let names = names(Side::Page);
     let mut imports = imports_of(&names);
@@ -300,6 +312,7 @@ fn main() {
     match words[1].as_str() {
         "send" => send_each(times),
         "accept" => accept_each(times),
+        "renew" => renew_each(times),
         "proxy" => hold_proxies(times),
         what => run_store(what, times),
     }

@@ -5,6 +5,8 @@ use Rattle.np_values.specs.declared.name.Name.{Name}
 use Rattle.np_proxy.specs.Exports.{Exported, is_exported, out_of}
 use Rattle.np_proxy.specs.Imports.{Imported, holders_of, was_purged}
 use Rattle.np_proxy.specs.Counts.{if_same}
+use Rattle.np_proxy.specs.declared.error.ProxyError.{ProxyError}
+use Rattle.np_proxy.specs.declared.error.ProxyError.TheVariants.{Unknown, TooMany, CountFull, NoMemory}
 
 -- the object is exported, and none of its references is out
 pub record IsReady (x : Name) (exports : Exported) : Type 0 where
@@ -32,3 +34,10 @@ pub record HasOneMore (y : Name) (old new : Imported) : Type 0 where
   pub side : new.side ≡ old.side
   pub purged : new.purged ≡ old.purged
   pub holders : (x : Name) → holders_of new x ≡ holders_of old x + if_same x y 1
+
+-- a name that came isn't counted only where a count is full or memory ran out
+abbrev pub IsStopped : ProxyError → Type 0
+IsStopped (CountFull instance serial) = Unit {0}
+IsStopped NoMemory = Unit {0}
+IsStopped (Unknown instance serial) = ⊥
+IsStopped (TooMany times out) = ⊥

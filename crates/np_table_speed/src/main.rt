@@ -5,7 +5,9 @@
 mod references;
 mod work;
 
-use crate::references::{accept_each, fill_exports, fill_imports, hold_proxies, send_each};
+use crate::references::{
+    accept_each, fill_exports, fill_imports, hold_proxies, renew_each, send_each,
+};
 use crate::work::{fill, hold_each, look_each};
 use np_objects::Store;
 use np_proxy::{Exports, Imports, ProxyError};
@@ -46,6 +48,7 @@ fn run_imports(alloc: Global, what: &str, times: u32) -> Result<(), ProxyError> 
     let names = fill_imports(alloc, &mut imports)?;
     match what {
         "accept" => accept_each(alloc, &mut imports, &names, times),
+        "renew" => renew_each(alloc, &mut imports, &names, times),
         _ => {
             hold_proxies(&mut imports, &names, times);
             Ok(())
@@ -62,8 +65,8 @@ fn status_of(outcome: Result<(), ProxyError>) -> u8 {
     }
 }
 
-/// Does so many times what the words say: `look`, `hold`, `send`, `accept` or `proxy`. The status is 2 where they say nothing
-/// else.
+/// Does so many times what the words say: `look`, `hold`, `send`, `accept`, `renew` or `proxy`. The status is 2 where they say
+/// nothing else.
 fn run(alloc: Global, words: &[String]) -> Result<u8, NoMemory> {
     let [what, times] = words else {
         return Ok(2);
@@ -74,7 +77,7 @@ fn run(alloc: Global, words: &[String]) -> Result<u8, NoMemory> {
     match what.as_str() {
         "look" | "hold" => run_store(alloc, what.as_str(), times),
         "send" => run_exports(alloc, times),
-        "accept" | "proxy" => Ok(status_of(run_imports(alloc, what.as_str(), times))),
+        "accept" | "renew" | "proxy" => Ok(status_of(run_imports(alloc, what.as_str(), times))),
         _ => Ok(2),
     }
 }

@@ -1,10 +1,10 @@
 //! What is measured of the references between the sides.
 
-ghost use Rattle.std.specs.Prelude.{◌≡◌, ◌<◌, ◌≤◌, ◌+◌, All, IfOk, OnOk, false};
+ghost use Rattle.std.specs.Prelude.{◌≡◌, ◌<◌, ◌≤◌, ◌+◌, length, All, IfOk, IfErr, OnOk, false};
 ghost use Rattle.np_values.specs.declared.name.Name.{Name};
 ghost use Rattle.np_values.specs.declared.name.Side.TheVariants.{Page, Plug};
 ghost use Rattle.np_proxy.specs.Exports.{is_exported};
-ghost use Rattle.np_table_speed.specs.References.{IsReady, AreEarlier, IsHeldProxy, IsCounting, HasOneMore};
+ghost use Rattle.np_table_speed.specs.References.{IsReady, AreEarlier, IsHeldProxy, IsCounting, HasOneMore, IsStopped};
 
 use np_objects::same_names_are_equal;
 use np_proxy::{
@@ -32,6 +32,7 @@ pub fn fill_exports(alloc: Global, exports: &mut Exports) -> Result<Vec<Name>, N
     requires none { (x : Name) → is_exported exports.old x ≡ false }
     ensures own { OnOk result (exports.new.side ≡ Plug) }
     ensures ready { IfOk result (λ names. All (λ x. IsReady x exports.new) names.items) }
+    ensures all { IfOk result (λ names. length names.items ≡ 1024) }
 {
     let mut names = Vec::new(alloc);
     for number in 0..1024u32 {
@@ -48,6 +49,7 @@ fn add_export(exports: &mut Exports, number: u32, names: &mut Vec<Name>) -> Resu
     ensures own { OnOk result (exports.new.side ≡ Plug) }
     ensures earlier { OnOk result (AreEarlier (number + 1) exports.new) }
     ensures ready { OnOk result (All (λ x. IsReady x exports.new) names.new.items) }
+    ensures one { OnOk result (length names.new.items ≡ length names.old.items + 1) }
 {
     exports_count();
     exports_are_kept();
@@ -103,6 +105,8 @@ pub fn fill_imports(alloc: Global, imports: &mut Imports) -> Result<Vec<Name>, P
     requires counting { IsCounting 0 imports.old }
     ensures counting { OnOk result (IsCounting 1024 imports.new) }
     ensures held { IfOk result (λ names. All (λ x. IsHeldProxy x imports.new) names.items) }
+    ensures all { IfOk result (λ names. length names.items ≡ 1024) }
+    ensures cause { IfErr result IsStopped }
 {
     let mut names = Vec::new(alloc);
     for number in 0..1024u32 {
@@ -122,6 +126,8 @@ fn add_import(
     requires held { All (λ x. IsHeldProxy x imports.old) names.old.items }
     ensures counting { OnOk result (IsCounting (number + 1) imports.new) }
     ensures held { OnOk result (All (λ x. IsHeldProxy x imports.new) names.new.items) }
+    ensures one { OnOk result (length names.new.items ≡ length names.old.items + 1) }
+    ensures cause { IfErr result IsStopped }
 {
     same_names_are_equal();
     let name = name_of(Side::Page, number);
@@ -137,6 +143,7 @@ fn accept_one(alloc: Global, imports: &mut Imports, name: Name, most: u32) -> Re
     requires other { name.side ≡ Page }
     requires counting { IsCounting most imports.old }
     ensures more { OnOk result (HasOneMore name imports.old imports.new) }
+    ensures cause { IfErr result IsStopped }
 {
     imports_count();
     let values = [Value::Object(name)];
@@ -162,6 +169,7 @@ pub fn accept_each(
 ) -> Result<(), ProxyError>
     requires counting { IsCounting 1024 imports.old }
     requires held { All (λ x. IsHeldProxy x imports.old) names.now }
+    ensures cause { IfErr result IsStopped }
 {
     for turn in 0..times {
         accept_once(alloc, imports, names)?;
@@ -174,6 +182,7 @@ fn accept_once(alloc: Global, imports: &mut Imports, names: &[Name]) -> Result<(
     requires held { All (λ x. IsHeldProxy x imports.old) names.now }
     ensures counting { OnOk result (IsCounting 1024 imports.new) }
     ensures held { OnOk result (All (λ x. IsHeldProxy x imports.new) names.now) }
+    ensures cause { IfErr result IsStopped }
 {
     imports_count();
     same_names_are_equal();
@@ -206,4 +215,50 @@ fn hold_proxies_once(imports: &mut Imports, names: &[Name])
         imports.hold(*name);
         imports.unhold(*name);
     }
+}
+
+/// Drops the last reference to each object, lets a message carry its release, and takes the name up again, so many times over.
+pub fn renew_each(
+    alloc: Global,
+    imports: &mut Imports,
+    names: &[Name],
+    times: u32,
+) -> Result<(), ProxyError>
+    requires counting { IsCounting 1024 imports.old }
+    requires held { All (λ x. IsHeldProxy x imports.old) names.now }
+    ensures cause { IfErr result IsStopped }
+{
+    for turn in 0..times {
+        renew_once(alloc, imports, names)?;
+    }
+    Ok(())
+}
+
+fn renew_once(alloc: Global, imports: &mut Imports, names: &[Name]) -> Result<(), ProxyError>
+    requires counting { IsCounting 1024 imports.old }
+    requires held { All (λ x. IsHeldProxy x imports.old) names.now }
+    ensures counting { OnOk result (IsCounting 1024 imports.new) }
+    ensures held { OnOk result (All (λ x. IsHeldProxy x imports.new) names.now) }
+    ensures cause { IfErr result IsStopped }
+{
+    same_names_are_equal();
+    for name in names {
+        give_back(imports, *name);
+        accept_one(alloc, imports, *name, 1024)?;
+    }
+    Ok(())
+}
+
+/// Drops a reference, and lets a message carry what is pending.
+fn give_back(imports: &mut Imports, name: Name)
+    requires held { IsHeldProxy name imports.old }
+    requires counting { IsCounting 1024 imports.old }
+    ensures fewer { HasOneMore name imports.new imports.old }
+{
+    imports_count();
+    same_names_are_equal();
+    imports.releases();
+    imports.unhold(name);
+    imports.releases();
+    imports.clear_releases();
 }
