@@ -2,7 +2,7 @@
 
 ghost use Rattle.std.specs.Prelude.{◌≡◌, ◌++◌, IfOk, OnOk, OnErr, string_bytes};
 ghost use Rattle.np_end_lines.specs.ScriptLines.{script_error_line, unbuilt_line, kind_name as name_of_kind};
-ghost use Rattle.np_end_stops.specs.Causes.{Adds, AddsPart, SinkCause, counted_output};
+ghost use Rattle.np_end_stops.specs.Causes.{Adds, AddsPart, SinkCause, UnlessMemory, counted_output, counted_memory_stop};
 ghost use Rattle.np_end_stops.specs.Status.{BAD_SCRIPT};
 
 use crate::lines::print_line;
@@ -43,6 +43,7 @@ pub fn finish_script<O: Sink>(alloc: Global, out: &mut O, error: ScriptError) ->
     ensures part { OnErr result (AddsPart (O.taken out.old) (O.taken out.new) (script_error_line error)) }
     ensures cause { SinkCause (O.faults out.old) (O.faults out.new) result }
     ensures count { O.faults out.new ≡ counted_output (O.faults out.old) result }
+    ensures memory_kept { UnlessMemory result (O.memory_faults out.new ≡ O.memory_faults out.old) }
 {
     match script_error_text(alloc, error) {
         Ok(line) => print_line(out, line.as_str(), exit_status::BAD_SCRIPT),
@@ -58,6 +59,7 @@ pub fn finish_unbuilt<O: Sink>(out: &mut O) -> Result<u8, Stop>
     ensures part { OnErr result (AddsPart (O.taken out.old) (O.taken out.new) unbuilt_line) }
     ensures cause { SinkCause (O.faults out.old) (O.faults out.new) result }
     ensures count { O.faults out.new ≡ counted_output (O.faults out.old) result }
+    ensures memory_count { O.memory_faults out.new ≡ counted_memory_stop (O.memory_faults out.old) result }
 {
     print_line(out, "end 3 unbuilt\n", exit_status::BAD_SCRIPT)
 }

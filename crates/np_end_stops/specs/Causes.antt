@@ -28,6 +28,24 @@ counted_output n (Ok x) = n
 counted_output n (Err OutputFailed) = min (n + 1) (2 ^ 64 - 1)
 counted_output n (Err NoMemory) = n
 
+-- this holds where memory ran out
+abbrev pub MemoryOnly : {T : Type 0} → Result T Stop → Type 0 → Type 0
+MemoryOnly (Ok x) P = Unit {0}
+MemoryOnly (Err OutputFailed) P = Unit {0}
+MemoryOnly (Err NoMemory) P = P
+
+-- this holds unless memory ran out
+abbrev pub UnlessMemory : {T : Type 0} → Result T Stop → Type 0 → Type 0
+UnlessMemory (Ok x) P = P
+UnlessMemory (Err OutputFailed) P = P
+UnlessMemory (Err NoMemory) P = Unit {0}
+
+-- a sink's count of out of memory is one higher where memory ran out, up to 2^64 - 1, and else as it was
+abbrev pub counted_memory_stop : {T : Type 0} → ℕ → Result T Stop → ℕ
+counted_memory_stop n (Ok x) = n
+counted_memory_stop n (Err OutputFailed) = n
+counted_memory_stop n (Err NoMemory) = min (n + 1) (2 ^ 64 - 1)
+
 -- for a sink that records what it took, it took these bytes
 abbrev pub Adds : Option (List ℕ) → Option (List ℕ) → List ℕ → Type 0
 Adds taken0 taken1 bytes = (t : List ℕ) → taken0 ≡ Some t → taken1 ≡ Some (t ++ bytes)

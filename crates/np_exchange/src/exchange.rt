@@ -2,7 +2,7 @@
 
 ghost use Rattle.std.specs.Prelude.{◌≡◌, ◌≤◌, ◌^◌, OnOk, OnErr, IfOk, ◌⊎◌};
 ghost use Rattle.np_endpoint.specs.End.{total_of};
-ghost use Rattle.np_end_stops.specs.Causes.{SinkCause, counted_output};
+ghost use Rattle.np_end_stops.specs.Causes.{SinkCause, UnlessMemory, counted_output};
 ghost use Rattle.np_end_stops.specs.PeerCauses.{TalkCause, TalkEnded};
 ghost use Rattle.np_exchange.specs.Session.{GaveAtMost};
 ghost use Rattle.np_exchange.specs.Live.{Talked, TurnCut, counted_talk, ended_talk};
@@ -33,6 +33,7 @@ pub fn talk<E: Endpoint, P: Peer, O: Sink>(
     ensures start_faults { P.start_faults peer.new ≡ P.start_faults peer.old }
     ensures sink { SinkCause (O.faults out.old) (O.faults out.new) result }
     ensures sink_count { O.faults out.new ≡ counted_output (O.faults out.old) result }
+    ensures memory_kept { UnlessMemory result (O.memory_faults out.new ≡ O.memory_faults out.old) }
 {
     let mut buf = [0u8; 4096];
     let mut total = 0u64;

@@ -3,7 +3,7 @@
 ghost use Rattle.std.specs.Prelude.{◌≡◌, ◌++◌, ◌+◌, ◌≤◌, ◌<◌, ◌^◌, [], List, ℕ, length, OnOk, OnErr, IfOk};
 ghost use Rattle.np_ports.specs.Causes.{HasCause};
 ghost use Rattle.np_endpoint.specs.End.{total_of};
-ghost use Rattle.np_end_stops.specs.Causes.{SinkCause, counted_output, Adds, AddsPart};
+ghost use Rattle.np_end_stops.specs.Causes.{SinkCause, UnlessMemory, counted_output, Adds, AddsPart};
 ghost use Rattle.np_end_stops.specs.PeerCauses.{TookPart, ReadCut, PeerCause, ReadCause, EndedBy, AtMost};
 ghost use Rattle.np_exchange.specs.Session.{GaveAtMost};
 ghost use Rattle.np_exchange.specs.Flow.{Printed, Sent, Hears, counted_sent, counted_read, ended_read};
@@ -20,6 +20,7 @@ pub fn print_journal<E: Endpoint, O: Sink>(end: &mut E, out: &mut O) -> Result<(
     ensures part { OnErr result (AddsPart (O.taken out.old) (O.taken out.new) (E.seen end.old).journal) }
     ensures cause { SinkCause (O.faults out.old) (O.faults out.new) result }
     ensures count { O.faults out.new ≡ counted_output (O.faults out.old) result }
+    ensures memory_kept { UnlessMemory result (O.memory_faults out.new ≡ O.memory_faults out.old) }
 {
     print_all(out, end.journal())?;
     let lines = end.journal().len();

@@ -2,7 +2,7 @@
 
 ghost use Rattle.std.specs.Prelude.{◌≡◌, ◌+◌, ◌-◌, ◌≤◌, ◌<◌, ◌^◌, length, OnOk, OnErr, IfOk};
 ghost use Rattle.np_endpoint.specs.End.{total_of};
-ghost use Rattle.np_end_stops.specs.Causes.{SinkCause, counted_output};
+ghost use Rattle.np_end_stops.specs.Causes.{SinkCause, UnlessMemory, counted_output};
 ghost use Rattle.np_end_stops.specs.PeerCauses.{ReadCut, GoesOnOnly, IsMemoryOnly, EndingCause, EndedOnly};
 ghost use Rattle.np_exchange.specs.Session.{GaveAtMost};
 ghost use Rattle.np_exchange.specs.Live.{Ran, RanCut, Turned, TurnCut, HeardOn, RefusesUncalled, counted_turn, ended_turn};
@@ -20,6 +20,7 @@ pub fn run_and_print<E: Endpoint, O: Sink>(end: &mut E, out: &mut O) -> Result<H
     ensures total { OnOk result (total_of (E.seen end.new) ≡ total_of (E.seen end.old)) }
     ensures cause { SinkCause (O.faults out.old) (O.faults out.new) result }
     ensures count { O.faults out.new ≡ counted_output (O.faults out.old) result }
+    ensures memory_kept { UnlessMemory result (O.memory_faults out.new ≡ O.memory_faults out.old) }
 {
     let halt = end.run()?;
     print_journal(end, out)?;
@@ -53,6 +54,7 @@ pub fn turn<E: Endpoint, P: Peer, O: Sink>(
     ensures start_faults { P.start_faults peer.new ≡ P.start_faults peer.old }
     ensures sink { SinkCause (O.faults out.old) (O.faults out.new) result }
     ensures sink_count { O.faults out.new ≡ counted_output (O.faults out.old) result }
+    ensures memory_kept { UnlessMemory result (O.memory_faults out.new ≡ O.memory_faults out.old) }
 {
     let halt = run_and_print(end, out)?;
     if let Halt::Refused(refusal) = halt {

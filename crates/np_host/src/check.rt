@@ -5,13 +5,13 @@ ghost use Rattle.np_values.specs.declared.name.Side.TheVariants.{Page as of_page
 ghost use Rattle.np_script_grammar.specs.declared.refusal.ScriptError.{ScriptError as ErrorValue};
 ghost use Rattle.np_script_grammar.specs.Refusals.{FirstError};
 ghost use Rattle.np_ports.specs.Causes.{Rose};
-ghost use Rattle.np_end_stops.specs.Causes.{Adds, AddsPart, SinkCause, counted_output};
+ghost use Rattle.np_end_stops.specs.Causes.{Adds, AddsPart, SinkCause, MemoryOnly, UnlessMemory, counted_output};
 ghost use Rattle.np_show.specs.Show.{KeepsFiles, NotesReadOnly};
 ghost use Rattle.np_host.specs.Host.{PrintsEarlyLine};
 ghost use Rattle.np_host.specs.Check.{IsCanonicalOf, PrintsCanonical, PrintsError, OnlyChecked, CheckCut, IsCheckStatus};
 ghost use Rattle.np_end_stops.specs.Status.{BAD_SCRIPT, DONE, FILE_FAILED};
 
-use np_end_lines::{finish, finish_script};
+use np_end_lines::{FixedEnd, finish, finish_script};
 use np_end_stops::{Stop, exit_status};
 use np_ports::{Files, PortError, Sink, print_all, read_script};
 use np_script::{ParseError, parse_page, parse_plugin, print_page, print_plugin};
@@ -74,6 +74,7 @@ fn print_text<O: Sink>(out: &mut O, text: &[u8]) -> Result<u8, Stop>
     ensures part { OnErr result (AddsPart (O.taken out.old) (O.taken out.new) text.now) }
     ensures cause { SinkCause (O.faults out.old) (O.faults out.new) result }
     ensures count { O.faults out.new ≡ counted_output (O.faults out.old) result }
+    ensures memory_kept { UnlessMemory result (O.memory_faults out.new ≡ O.memory_faults out.old) }
 {
     match print_all(out, text) {
         Ok(()) => Ok(exit_status::DONE),
@@ -101,12 +102,14 @@ pub fn check<F: Files, O: Sink>(
     ensures file_only { IfOk result (λ status. (status ≡ FILE_FAILED) ⊎ (F.faults files.new ≡ F.faults files.old)) }
     ensures sink { SinkCause (O.faults out.old) (O.faults out.new) result }
     ensures sink_count { O.faults out.new ≡ counted_output (O.faults out.old) result }
+    ensures memory_kept { UnlessMemory result (O.memory_faults out.new ≡ O.memory_faults out.old) }
+    ensures file_memory { MemoryOnly result ((F.faults files.new ≡ F.faults files.old) ⊎ Rose (O.memory_faults out.old) (O.memory_faults out.new)) }
     ensures files { KeepsFiles (F.contents files.old) (F.contents files.new) }
     ensures failed_calls { NotesReadOnly name.now (F.failed_calls files.old) (F.failed_calls files.new) }
 {
     let bytes = match read_script(alloc, files, name) {
         Ok(bytes) => bytes,
-        Err(PortError::Failed) => return finish(alloc, out, exit_status::FILE_FAILED),
+        Err(PortError::Failed) => return finish(out, FixedEnd::FileFailed),
         Err(PortError::NoMemory) => return Err(Stop::NoMemory),
     };
     match canonical_text(alloc, side, &bytes) {

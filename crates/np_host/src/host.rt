@@ -10,14 +10,14 @@ ghost use Rattle.np_host.specs.Host.{RunsPage, RunCut, CutWords, StopsEarly, Not
 ghost use Rattle.np_show.specs.Show.{KeepsFiles, NotesReadOnly};
 ghost use Rattle.np_host.specs.Shows.{ShowsFile, ShowsBeginning, ShowsCut, ShowsOnly};
 ghost use Rattle.np_host.specs.Check.{ChecksWell, ChecksBadly, ChecksOnly, ChecksPart};
-ghost use Rattle.np_end_stops.specs.Causes.{SinkCause, counted_output};
+ghost use Rattle.np_end_stops.specs.Causes.{SinkCause, MemoryOnly, UnlessMemory, counted_output};
 ghost use Rattle.np_host.specs.Main.{FollowsWords, ForEachPlugin, HostDone, HostLost, HostBroken, HostRefused, HostCut};
-ghost use Rattle.np_end_stops.specs.Status.{BAD_SCRIPT, DONE, FILE_FAILED, NOT_STARTED, OUTPUT_FAILED, PEER_LOST, PIPE_FAILED, REFUSED, USAGE};
+ghost use Rattle.np_end_stops.specs.Status.{BAD_SCRIPT, DONE, FILE_FAILED, NOT_STARTED, NO_MEMORY, OUTPUT_FAILED, PEER_LOST, PIPE_FAILED, REFUSED, USAGE};
 
 use crate::check::check;
 use crate::session::session;
 use crate::words::{CommandWords, host_command};
-use np_end_lines::{finish, finish_script, finish_unbuilt};
+use np_end_lines::{FixedEnd, finish, finish_script, finish_unbuilt};
 use np_end_stops::{Stop, exit_status};
 use np_model_scripts::{Unserved, serve_page, served_pages_are_well_formed};
 use np_model_wire_laws::{
@@ -59,12 +59,15 @@ fn run<P: Peer, F: Files, O: Sink>(
     ensures early_peer { IfOk result (λ status. (status ≡ BAD_SCRIPT) ⊎ (status ≡ FILE_FAILED) → peer.new ≡ peer.old) }
     ensures sink { SinkCause (O.faults out.old) (O.faults out.new) result }
     ensures sink_count { O.faults out.new ≡ counted_output (O.faults out.old) result }
+    ensures memory_kept { UnlessMemory result (O.memory_faults out.new ≡ O.memory_faults out.old) }
+    ensures file_memory { MemoryOnly result ((F.faults files.new ≡ F.faults files.old) ⊎ Rose (O.memory_faults out.old) (O.memory_faults out.new)) }
+    ensures start_memory { MemoryOnly result ((P.start_faults peer.new ≡ P.start_faults peer.old) ⊎ Rose (O.memory_faults out.old) (O.memory_faults out.new)) }
     ensures files { KeepsFiles (F.contents files.old) (F.contents files.new) }
     ensures failed_calls { NotesReadOnly name.now (F.failed_calls files.old) (F.failed_calls files.new) }
 {
     let bytes = match read_script(alloc, files, name) {
         Ok(bytes) => bytes,
-        Err(PortError::Failed) => return finish(alloc, out, exit_status::FILE_FAILED),
+        Err(PortError::Failed) => return finish(out, FixedEnd::FileFailed),
         Err(PortError::NoMemory) => return Err(Stop::NoMemory),
     };
     let page = match serve_page(alloc, &bytes) {
@@ -75,7 +78,7 @@ fn run<P: Peer, F: Files, O: Sink>(
     };
     match peer.start(program) {
         Ok(()) => {}
-        Err(PortError::Failed) => return finish(alloc, out, exit_status::NOT_STARTED),
+        Err(PortError::Failed) => return finish(out, FixedEnd::NotStarted),
         Err(PortError::NoMemory) => return Err(Stop::NoMemory),
     }
     let status = session(alloc, page, peer, out)?;
@@ -122,6 +125,9 @@ fn serve<P: Peer, F: Files, O: Sink>(
     ensures idle { IfOk result (λ status. status ≡ USAGE → (peer.new ≡ peer.old) × (files.new ≡ files.old)) }
     ensures sink { SinkCause (O.faults out.old) (O.faults out.new) result }
     ensures sink_count { O.faults out.new ≡ counted_output (O.faults out.old) result }
+    ensures memory_kept { UnlessMemory result (O.memory_faults out.new ≡ O.memory_faults out.old) }
+    ensures file_memory { MemoryOnly result ((F.faults files.new ≡ F.faults files.old) ⊎ Rose (O.memory_faults out.old) (O.memory_faults out.new)) }
+    ensures start_memory { MemoryOnly result ((P.start_faults peer.new ≡ P.start_faults peer.old) ⊎ Rose (O.memory_faults out.old) (O.memory_faults out.new)) }
     ensures files { KeepsFiles (F.contents files.old) (F.contents files.new) }
     ensures failed_calls { NotesScriptOnly (command_in (texts words.now)) (F.failed_calls files.old) (F.failed_calls files.new) }
 {
@@ -135,7 +141,7 @@ fn serve<P: Peer, F: Files, O: Sink>(
             let status = show(alloc, file.as_str(), files, out)?;
             return Ok(status);
         }
-        None => return finish(alloc, out, exit_status::USAGE),
+        None => return finish(out, FixedEnd::Usage),
     };
     let status = run(alloc, plain[0].as_str(), &plain[1..], peer, files, out)?;
     Ok(status)
@@ -214,6 +220,12 @@ pub fn host_main<P: Peer, F: Files, O: Sink>(
     ensures ended_only { (result ≡ PEER_LOST) ⊎ (IsCutShort result ⊎ (P.has_ended peer.new ≡ P.has_ended peer.old)) }
     ensures pipe_only { (result ≡ PIPE_FAILED) ⊎ (IsCutShort result ⊎ (P.pipe_faults peer.new ≡ P.pipe_faults peer.old)) }
     ensures output_only { (result ≡ OUTPUT_FAILED) ⊎ (O.faults out.new ≡ O.faults out.old) }
+    ensures memory_only { (result ≡ NO_MEMORY) ⊎ (O.memory_faults out.new ≡ O.memory_faults out.old) }
+
+    // Out of memory comes in place of neither 4 nor 11: at 8 no read of a file and no start has failed, unless memory ran out in
+    // the output itself. After 5 and 6 the page continues without its plug-in, which takes memory, so there 8 may come.
+    ensures file_memory { result ≡ NO_MEMORY → (F.faults files.new ≡ F.faults files.old) ⊎ Rose (O.memory_faults out.old) (O.memory_faults out.new) }
+    ensures start_memory { result ≡ NO_MEMORY → (P.start_faults peer.new ≡ P.start_faults peer.old) ⊎ Rose (O.memory_faults out.old) (O.memory_faults out.new) }
 
     // At 2 nothing was called but the output; at 3 and 4 the peer wasn't.
     ensures idle { result ≡ USAGE → (peer.new ≡ peer.old) × (files.new ≡ files.old) }

@@ -4,7 +4,7 @@ ghost use Rattle.std.specs.Prelude.{◌≡◌, ◌^◌, OnOk, OnErr, IfOk, true,
 ghost use Rattle.np_model.specs.Script.{commands_fit};
 ghost use Rattle.np_model.specs.Alone.{page_role};
 ghost use Rattle.np_ports.specs.Causes.{Rose};
-ghost use Rattle.np_end_stops.specs.Causes.{SinkCause, counted_output};
+ghost use Rattle.np_end_stops.specs.Causes.{SinkCause, UnlessMemory, counted_output};
 ghost use Rattle.np_end_stops.specs.PeerCauses.{SessionCause, SessionEnded};
 ghost use Rattle.np_end_stops.specs.Status.{status_of, IsRunStatus, PIPE_FAILED, PEER_LOST};
 ghost use Rattle.np_exchange.specs.Session.{Told, GaveAtMost};
@@ -12,8 +12,8 @@ ghost use Rattle.np_exchange.specs.Closing.{EndsWith, Closed, ClosedPart};
 ghost use Rattle.np_host.specs.Outcomes.{OutcomeOf, CutShort};
 ghost use Rattle.np_host.specs.Losing.{Loses, LosesPart};
 
-use np_end_lines::{finish, finish_refused};
-use np_end_stops::{Ending, Stop, exit_status};
+use np_end_lines::{FixedEnd, finish, finish_refused};
+use np_end_stops::{Ending, Stop};
 use np_exchange::{print_journal, talk};
 use np_host_end::{HostEnd, Page};
 use np_model_laws::{journal_law, lost_law};
@@ -26,6 +26,7 @@ fn lose<O: Sink>(end: &mut HostEnd, out: &mut O) -> Result<(), Stop>
     ensures cut { OnErr result (LosesPart (O.taken out.old) (O.taken out.new) end.old) }
     ensures sink { SinkCause (O.faults out.old) (O.faults out.new) result }
     ensures sink_count { O.faults out.new ≡ counted_output (O.faults out.old) result }
+    ensures memory_kept { UnlessMemory result (O.memory_faults out.new ≡ O.memory_faults out.old) }
 {
     lost_law();
     journal_law();
@@ -41,17 +42,18 @@ fn close<O: Sink>(alloc: Global, ending: Ending, end: &mut HostEnd, out: &mut O)
     ensures status { IfOk result (λ status. status ≡ status_of ending) }
     ensures sink { SinkCause (O.faults out.old) (O.faults out.new) result }
     ensures sink_count { O.faults out.new ≡ counted_output (O.faults out.old) result }
+    ensures memory_kept { UnlessMemory result (O.memory_faults out.new ≡ O.memory_faults out.old) }
 {
     match ending {
-        Ending::Done => finish(alloc, out, exit_status::DONE),
-        Ending::Unsent => finish(alloc, out, exit_status::PIPE_FAILED),
+        Ending::Done => finish(out, FixedEnd::Done),
+        Ending::Unsent => finish(out, FixedEnd::PipeFailed),
         Ending::Ended => {
             lose(end, out)?;
-            finish(alloc, out, exit_status::PEER_LOST)
+            finish(out, FixedEnd::PeerLost)
         }
         Ending::Failed => {
             lose(end, out)?;
-            finish(alloc, out, exit_status::PIPE_FAILED)
+            finish(out, FixedEnd::PipeFailed)
         }
         Ending::Refused(refusal) => {
             lose(end, out)?;
@@ -79,6 +81,7 @@ pub fn session<P: Peer, O: Sink>(
     ensures start_faults { P.start_faults peer.new ≡ P.start_faults peer.old }
     ensures sink { SinkCause (O.faults out.old) (O.faults out.new) result }
     ensures sink_count { O.faults out.new ≡ counted_output (O.faults out.old) result }
+    ensures memory_kept { UnlessMemory result (O.memory_faults out.new ≡ O.memory_faults out.old) }
 {
     let mut end = HostEnd::new(alloc, page)?;
     let ending = talk(&mut end, peer, out)?;

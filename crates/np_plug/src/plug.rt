@@ -2,16 +2,16 @@
 
 ghost use Rattle.std.specs.Prelude.{◌≡◌, ◌<◌, ◌^◌, ◌⊎◌, ◌↔◌, ◌≢◌, length, map, string_bytes, IfOk, OnOk, OnErr, Some, None, true};
 ghost use Rattle.np_ports.specs.Causes.{Rose};
-ghost use Rattle.np_end_stops.specs.Causes.{SinkCause, counted_output};
+ghost use Rattle.np_end_stops.specs.Causes.{SinkCause, MemoryOnly, UnlessMemory, counted_output};
 ghost use Rattle.np_plug.specs.Plug.{texts, script_word, RunsPlugin, RunCut, CutWords, RunsWords, UnrefusedWords, StopsEarly, RefusesPlugin, RefusesScript, OnlyRefused, OnlyRefusedScript, KeepsFiles, NotesScriptOnly, NotesWordsOnly, IsIdle, IsCutShort, IsEndStatus};
 ghost use Rattle.np_exchange.specs.Session.{GaveAtMost};
 ghost use Rattle.np_exchange.specs.Closing.{IsUnrefusedStatus};
 ghost use Rattle.np_plug.specs.Outcomes.{CutShort};
 ghost use Rattle.np_plug.specs.Main.{FollowsWords, ForEachPage, PluginDone, PluginLeft, PluginBroken, PluginRefused, PluginCut};
-ghost use Rattle.np_end_stops.specs.Status.{BAD_SCRIPT, DONE, FILE_FAILED, OUTPUT_FAILED, PEER_LOST, PIPE_FAILED, REFUSED, USAGE};
+ghost use Rattle.np_end_stops.specs.Status.{BAD_SCRIPT, DONE, FILE_FAILED, NO_MEMORY, OUTPUT_FAILED, PEER_LOST, PIPE_FAILED, REFUSED, USAGE};
 
 use crate::session::session;
-use np_end_lines::{finish, finish_script, finish_unbuilt};
+use np_end_lines::{FixedEnd, finish, finish_script, finish_unbuilt};
 use np_end_stops::{Stop, exit_status};
 use np_model_scripts::{Unserved, serve_plugin, served_pages_are_well_formed};
 use np_model_wire_laws::{
@@ -48,12 +48,16 @@ fn run<P: Peer, F: Files, O: Sink>(
     ensures early_peer { IfOk result (λ status. (status ≡ BAD_SCRIPT) ⊎ (status ≡ FILE_FAILED) → peer.new ≡ peer.old) }
     ensures sink { SinkCause (O.faults notes.old) (O.faults notes.new) result }
     ensures sink_count { O.faults notes.new ≡ counted_output (O.faults notes.old) result }
+    ensures memory_kept { UnlessMemory result (O.memory_faults notes.new ≡ O.memory_faults notes.old) }
+    ensures file_memory { MemoryOnly result ((F.faults files.new ≡ F.faults files.old) ⊎ Rose (O.memory_faults notes.old) (O.memory_faults notes.new)) }
+    ensures ended_memory { MemoryOnly result ((P.has_ended peer.new ≡ P.has_ended peer.old) ⊎ Rose (O.memory_faults notes.old) (O.memory_faults notes.new)) }
+    ensures pipe_memory { MemoryOnly result ((P.pipe_faults peer.new ≡ P.pipe_faults peer.old) ⊎ Rose (O.memory_faults notes.old) (O.memory_faults notes.new)) }
     ensures files { KeepsFiles (F.contents files.old) (F.contents files.new) }
     ensures failed_calls { NotesScriptOnly name.now (F.failed_calls files.old) (F.failed_calls files.new) }
 {
     let bytes = match read_script(alloc, files, name) {
         Ok(bytes) => bytes,
-        Err(PortError::Failed) => return finish(alloc, notes, exit_status::FILE_FAILED),
+        Err(PortError::Failed) => return finish(notes, FixedEnd::FileFailed),
         Err(PortError::NoMemory) => return Err(Stop::NoMemory),
     };
     let plugin = match serve_plugin(alloc, &bytes) {
@@ -119,6 +123,13 @@ pub fn plug_main<P: Peer, F: Files, O: Sink>(
     ensures ended_only { (result ≡ PEER_LOST) ⊎ (IsCutShort result ⊎ (P.has_ended peer.new ≡ P.has_ended peer.old)) }
     ensures pipe_only { (result ≡ PIPE_FAILED) ⊎ (IsCutShort result ⊎ (P.pipe_faults peer.new ≡ P.pipe_faults peer.old)) }
     ensures output_only { (result ≡ OUTPUT_FAILED) ⊎ (O.faults notes.new ≡ O.faults notes.old) }
+    ensures memory_only { (result ≡ NO_MEMORY) ⊎ (O.memory_faults notes.new ≡ O.memory_faults notes.old) }
+
+    // Out of memory comes in place of none of 4, 5 and 6: at 8 no read of the script, no read or write of the peer has failed, and
+    // the peer has not ended, unless memory ran out in the notes themselves.
+    ensures file_memory { result ≡ NO_MEMORY → (F.faults files.new ≡ F.faults files.old) ⊎ Rose (O.memory_faults notes.old) (O.memory_faults notes.new) }
+    ensures ended_memory { result ≡ NO_MEMORY → (P.has_ended peer.new ≡ P.has_ended peer.old) ⊎ Rose (O.memory_faults notes.old) (O.memory_faults notes.new) }
+    ensures pipe_memory { result ≡ NO_MEMORY → (P.pipe_faults peer.new ≡ P.pipe_faults peer.old) ⊎ Rose (O.memory_faults notes.old) (O.memory_faults notes.new) }
 
     // At 2 nothing was called at all; at 3 and 4 the peer wasn't.
     ensures unchanged { result ≡ USAGE → (peer.new ≡ peer.old) × ((files.new ≡ files.old) × (notes.new ≡ notes.old)) }

@@ -2,16 +2,16 @@
 
 ghost use Rattle.std.specs.Prelude.{◌≡◌, ◌^◌, OnOk, OnErr, IfOk, true, ◌⊎◌};
 ghost use Rattle.np_ports.specs.Causes.{Rose};
-ghost use Rattle.np_end_stops.specs.Causes.{Adds, AddsPart, SinkCause, counted_output};
+ghost use Rattle.np_end_stops.specs.Causes.{Adds, AddsPart, SinkCause, MemoryOnly, UnlessMemory, counted_output};
 ghost use Rattle.np_end_stops.specs.PeerCauses.{SessionCause, SessionEnded};
-ghost use Rattle.np_end_stops.specs.Status.{status_of, IsRunStatus, PIPE_FAILED, PEER_LOST};
+ghost use Rattle.np_end_stops.specs.Status.{status_of, IsRunStatus, PIPE_FAILED, PEER_LOST, REFUSED};
 ghost use Rattle.np_end_lines.specs.Endings.{ending_line};
 ghost use Rattle.np_exchange.specs.Session.{Told, GaveAtMost};
 ghost use Rattle.np_exchange.specs.Closing.{EndsWith};
 ghost use Rattle.np_plug.specs.Outcomes.{OutcomeOf, CutShort};
 
-use np_end_lines::{finish, finish_refused};
-use np_end_stops::{Ending, Stop, exit_status};
+use np_end_lines::{FixedEnd, finish, finish_refused};
+use np_end_stops::{Ending, Stop};
 use np_exchange::talk;
 use np_plug_end::{PlugEnd, Plugin};
 use np_ports::{Peer, Sink};
@@ -24,11 +24,13 @@ fn close<O: Sink>(alloc: Global, ending: Ending, notes: &mut O) -> Result<u8, St
     ensures part { OnErr result (AddsPart (O.taken notes.old) (O.taken notes.new) (ending_line ending)) }
     ensures sink { SinkCause (O.faults notes.old) (O.faults notes.new) result }
     ensures sink_count { O.faults notes.new ≡ counted_output (O.faults notes.old) result }
+    ensures memory_kept { UnlessMemory result (O.memory_faults notes.new ≡ O.memory_faults notes.old) }
+    ensures memory { MemoryOnly result ((status_of ending ≡ REFUSED) ⊎ Rose (O.memory_faults notes.old) (O.memory_faults notes.new)) }
 {
     match ending {
-        Ending::Done => finish(alloc, notes, exit_status::DONE),
-        Ending::Ended => finish(alloc, notes, exit_status::PEER_LOST),
-        Ending::Unsent | Ending::Failed => finish(alloc, notes, exit_status::PIPE_FAILED),
+        Ending::Done => finish(notes, FixedEnd::Done),
+        Ending::Ended => finish(notes, FixedEnd::PeerLost),
+        Ending::Unsent | Ending::Failed => finish(notes, FixedEnd::PipeFailed),
         Ending::Refused(refusal) => finish_refused(alloc, notes, refusal),
     }
 }
@@ -51,6 +53,9 @@ pub fn session<P: Peer, O: Sink>(
     ensures start_faults { P.start_faults peer.new ≡ P.start_faults peer.old }
     ensures sink { SinkCause (O.faults notes.old) (O.faults notes.new) result }
     ensures sink_count { O.faults notes.new ≡ counted_output (O.faults notes.old) result }
+    ensures memory_kept { UnlessMemory result (O.memory_faults notes.new ≡ O.memory_faults notes.old) }
+    ensures ended_memory { MemoryOnly result ((P.has_ended peer.new ≡ P.has_ended peer.old) ⊎ Rose (O.memory_faults notes.old) (O.memory_faults notes.new)) }
+    ensures pipe_memory { MemoryOnly result ((P.pipe_faults peer.new ≡ P.pipe_faults peer.old) ⊎ Rose (O.memory_faults notes.old) (O.memory_faults notes.new)) }
 {
     let mut end = PlugEnd::new(alloc, plugin)?;
     let ending = talk(&mut end, peer, notes)?;

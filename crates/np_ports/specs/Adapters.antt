@@ -49,6 +49,10 @@ host_faults f = f.faults
 abbrev pub stdout_faults : {W : Type 0} → StdoutSink W → ℕ
 stdout_faults s = s.faults
 
+-- its answers of out of memory
+abbrev pub stdout_memory_faults : {W : Type 0} → StdoutSink W → ℕ
+stdout_memory_faults s = s.memory_faults
+
 -- the starts that were asked of a peer that is never started
 abbrev pub std_start_faults : {I O : Type 0} → StdPeer I O → ℕ
 std_start_faults p = p.start_faults
@@ -64,6 +68,10 @@ file_sink_is_open s = is_some s.open
 -- the failures of a file as a sink
 abbrev pub file_sink_faults : {R F D : Type 0} → FileSink R F D → ℕ
 file_sink_faults s = s.faults
+
+-- its answers of out of memory
+abbrev pub file_sink_memory_faults : {R F D : Type 0} → FileSink R F D → ℕ
+file_sink_memory_faults s = s.memory_faults
 
 -- The file that is open afterwards took what the write answers. One that wasn't open before was made, or is none still where it couldn't be.
 abbrev pub FileTook : {F E : Type 0} → (F → Option (List ℕ)) → Option F → Option F → Result ℕ E → List ℕ → Type 0

@@ -19,6 +19,12 @@ counted n (Ok x) = n
 counted n (Err Failed) = min (n + 1) (2 ^ 64 - 1)
 counted n (Err NoMemory) = n
 
+-- a count of answers of out of memory is one higher after a call that answered so, up to 2^64 - 1, and else as it was
+abbrev pub counted_memory : {T : Type 0} → ℕ → Result T PortError → ℕ
+counted_memory n (Ok x) = n
+counted_memory n (Err Failed) = n
+counted_memory n (Err NoMemory) = min (n + 1) (2 ^ 64 - 1)
+
 -- a count doesn't fall, and Failed comes only where it rose
 pub record HasCause {T : Type 0} (before now : ℕ) (result : Result T PortError) : Type 0 where
   pub later : before ≤ now

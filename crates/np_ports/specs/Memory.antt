@@ -124,3 +124,10 @@ mem_sink_plan s = plan_of s.plan
 
 abbrev pub mem_sink_faults : MemSink → ℕ
 mem_sink_faults s = s.faults
+
+-- how often a sink answered out of memory
+abbrev pub sure_memory_faults : SureSink → ℕ
+sure_memory_faults s = s.memory_faults
+
+abbrev pub mem_memory_faults : MemSink → ℕ
+mem_memory_faults s = s.memory_faults

@@ -1,10 +1,10 @@
 //! A sink that is a file.
 
 ghost use Rattle.std.specs.Prelude.{◌≡◌, ◌<◌, ◌≤◌, true, false, None, length, IfOk, OnOk};
-ghost use Rattle.np_ports.specs.Causes.{HasCause, counted};
-ghost use Rattle.np_ports.specs.Adapters.{FileTook, file_sink_is_open, file_sink_faults};
+ghost use Rattle.np_ports.specs.Causes.{HasCause, counted, counted_memory};
+ghost use Rattle.np_ports.specs.Adapters.{FileTook, file_sink_is_open, file_sink_faults, file_sink_memory_faults};
 
-use crate::faults::{fail, refuse};
+use crate::faults::{fail, refuse_counted};
 use crate::{PortError, Sink};
 use std::io::Write;
 use std::{fs, io, rt};
@@ -17,6 +17,7 @@ pub struct FileSink<R: rt::Files + Drop> {
     name: String,
     open: Option<R::File>,
     faults: u64,
+    memory_faults: u64,
 }
 
 impl<R: rt::Files + Drop> FileSink<R> {
@@ -24,12 +25,14 @@ impl<R: rt::Files + Drop> FileSink<R> {
     pub fn new(runtime: R, name: String) -> FileSink<R>
         ensures open { file_sink_is_open result ≡ false }
         ensures faults { file_sink_faults result ≡ 0 }
+        ensures memory_faults { file_sink_memory_faults result ≡ 0 }
     {
         FileSink {
             runtime,
             name,
             open: None,
             faults: 0,
+            memory_faults: 0,
         }
     }
 
@@ -38,6 +41,7 @@ impl<R: rt::Files + Drop> FileSink<R> {
         ensures bound { IfOk result (λ n. n ≤ length bytes.now) }
         ensures bytes { FileTook R.File.contents self.old.«open» self.new.«open» result bytes.now }
         ensures faults { file_sink_faults self.new ≡ file_sink_faults self.old }
+        ensures memory_faults { file_sink_memory_faults self.new ≡ file_sink_memory_faults self.old }
         ensures open { OnOk result (file_sink_is_open self.new ≡ true) }
         ensures kept { file_sink_is_open self.old ≡ true → file_sink_is_open self.new ≡ true }
     {
@@ -56,11 +60,14 @@ impl<R: rt::Files + Drop> Sink for FileSink<R> {
 
     ghost faults = { λ s. file_sink_faults s };
 
+    ghost memory_faults = { λ s. file_sink_memory_faults s };
+
     fn write(&mut self, bytes: &[u8]) -> Result<usize, PortError>
         requires { 0 < length bytes.now }
         ensures bound { IfOk result (λ n. (0 < n) × (n ≤ length bytes.now)) }
         ensures cause { HasCause (file_sink_faults self.old) (file_sink_faults self.new) result }
         ensures count { file_sink_faults self.new ≡ counted (file_sink_faults self.old) result }
+        ensures memory_count { file_sink_memory_faults self.new ≡ counted_memory (file_sink_memory_faults self.old) result }
 
         // It stays open, also where a write failed.
         ensures open { OnOk result (file_sink_is_open self.new ≡ true) }
@@ -69,7 +76,7 @@ impl<R: rt::Files + Drop> Sink for FileSink<R> {
         match self.write_some(bytes) {
             Ok(0) => fail(&mut self.faults),
             Ok(n) => Ok(n),
-            Err(e) => refuse(&mut self.faults, e),
+            Err(e) => refuse_counted(&mut self.faults, &mut self.memory_faults, e),
         }
     }
 }

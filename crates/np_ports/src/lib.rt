@@ -15,6 +15,7 @@ mod mem_sink;
 mod peer_memory;
 mod reading;
 mod scripted_peer;
+mod sink_memory;
 mod std_peer;
 mod stdout_sink;
 mod sure_files;

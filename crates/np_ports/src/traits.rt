@@ -2,7 +2,7 @@
 
 ghost use Rattle.std.specs.Prelude.{◌≡◌, ◌<◌, ◌≤◌, ℕ, List, Bool, Option, length, map, IfOk, string_bytes};
 ghost use Rattle.np_ports.specs.declared.file_call.FileCall.{FileCall};
-ghost use Rattle.np_ports.specs.Causes.{HasCause, counted};
+ghost use Rattle.np_ports.specs.Causes.{HasCause, counted, counted_memory};
 ghost use Rattle.np_ports.specs.Peer.{Known, Starts, Reads, Writes, EndsAt};
 ghost use Rattle.np_ports.specs.Files.{Contents, ReadsFile, PutsFile, NotesFailure};
 ghost use Rattle.np_ports.specs.Sink.{Takes};
@@ -78,12 +78,14 @@ pub trait Files {
         ensures count { faults self.new ≡ counted (faults self.old) result };
 }
 
-/// Where bytes are printed. It tells the bytes that it took where it can, and always a count of faults.
-/// This project's own.
+/// Where bytes are printed. It tells the bytes that it took where it can, and always two counts: of faults, and of
+/// its answers of out of memory. This project's own.
 pub trait Sink {
     ghost taken: { Self → Option (List ℕ) };
 
     ghost faults: { Self → ℕ };
+
+    ghost memory_faults: { Self → ℕ };
 
     /// Prints bytes of the front of `bytes`, and reports how many.
     fn write(&mut self, bytes: &[u8]) -> Result<usize, PortError>
@@ -91,5 +93,6 @@ pub trait Sink {
         ensures bound { IfOk result (λ n. (0 < n) × (n ≤ length bytes.now)) }
         ensures taken { Takes (taken self.old) (taken self.new) result bytes.now }
         ensures cause { HasCause (faults self.old) (faults self.new) result }
-        ensures count { faults self.new ≡ counted (faults self.old) result };
+        ensures count { faults self.new ≡ counted (faults self.old) result }
+        ensures memory_count { memory_faults self.new ≡ counted_memory (memory_faults self.old) result };
 }

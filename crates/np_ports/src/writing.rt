@@ -1,5 +1,5 @@
 ghost use Rattle.std.specs.Prelude.{◌≡◌, ◌≤◌, ◌<◌, length};
-ghost use Rattle.np_ports.specs.Causes.{HasCause, counted};
+ghost use Rattle.np_ports.specs.Causes.{HasCause, counted, counted_memory};
 ghost use Rattle.np_ports.specs.Transfer.{Prints, Sends};
 
 use crate::{Peer, PortError, Sink};
@@ -9,6 +9,7 @@ pub fn print_all<O: Sink>(out: &mut O, bytes: &[u8]) -> Result<(), PortError>
     ensures taken { Prints (O.taken out.old) (O.taken out.new) result bytes.now }
     ensures cause { HasCause (O.faults out.old) (O.faults out.new) result }
     ensures count { O.faults out.new ≡ counted (O.faults out.old) result }
+    ensures memory_count { O.memory_faults out.new ≡ counted_memory (O.memory_faults out.old) result }
 {
     let mut rest = bytes;
     while !rest.is_empty() {

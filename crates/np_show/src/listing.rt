@@ -3,15 +3,16 @@
 ghost use Rattle.std.specs.Prelude.{◌≡◌, ◌≢◌, ◌<◌, ◌++◌, IfOk, OnOk, OnErr, string_bytes, ◌⊎◌};
 ghost use Rattle.np_ports.specs.Causes.{Rose};
 ghost use Rattle.np_model.specs.Journal.{end_line};
-ghost use Rattle.np_end_stops.specs.Causes.{Adds, AddsPart, SinkCause, counted_output};
+ghost use Rattle.np_end_stops.specs.Causes.{Adds, AddsPart, SinkCause, MemoryOnly, UnlessMemory, counted_output};
 ghost use Rattle.np_show.specs.Listing.{rest_line};
+ghost use Rattle.np_show.specs.declared.outcome.Outcome.TheVariants.{FileFailed};
 ghost use Rattle.np_show.specs.Show.{ShowsAll, ShowsPart, ShowCut, IsShowStatus, KeepsFiles, NotesReadOnly};
 ghost use Rattle.np_show.specs.Taking.{outcome_lines, outcome_status};
 ghost use Rattle.np_end_stops.specs.Status.{DONE, FILE_FAILED};
 
 use crate::outcome::Outcome;
 use crate::reading::show_messages;
-use np_end_lines::{finish, finish_refused};
+use np_end_lines::{FixedEnd, finish, finish_refused};
 use np_end_stops::{Stop, exit_status};
 use np_ports::{Files, Sink, print_all};
 use np_values::NoMemory;
@@ -33,9 +34,10 @@ fn finish_rest<O: Sink>(alloc: Global, out: &mut O, left: u64) -> Result<u8, Sto
     ensures part { OnErr result (AddsPart (O.taken out.old) (O.taken out.new) (rest_line left ++ end_line 0)) }
     ensures cause { SinkCause (O.faults out.old) (O.faults out.new) result }
     ensures count { O.faults out.new ≡ counted_output (O.faults out.old) result }
+    ensures memory_kept { UnlessMemory result (O.memory_faults out.new ≡ O.memory_faults out.old) }
 {
     if left == 0 {
-        return finish(alloc, out, exit_status::DONE);
+        return finish(out, FixedEnd::Done);
     }
     let lines = rest_text(alloc, left)?;
     print_all(out, lines.as_bytes())?;
@@ -49,11 +51,13 @@ fn finish_listing<O: Sink>(alloc: Global, out: &mut O, outcome: Outcome) -> Resu
     ensures part { OnErr result (AddsPart (O.taken out.old) (O.taken out.new) (outcome_lines outcome)) }
     ensures cause { SinkCause (O.faults out.old) (O.faults out.new) result }
     ensures count { O.faults out.new ≡ counted_output (O.faults out.old) result }
+    ensures memory_kept { UnlessMemory result (O.memory_faults out.new ≡ O.memory_faults out.old) }
+    ensures file_memory { MemoryOnly result (outcome ≡ FileFailed → Rose (O.memory_faults out.old) (O.memory_faults out.new)) }
 {
     match outcome {
         Outcome::Ended(left) => finish_rest(alloc, out, left),
         Outcome::Refused(refusal) => finish_refused(alloc, out, refusal),
-        Outcome::FileFailed => finish(alloc, out, exit_status::FILE_FAILED),
+        Outcome::FileFailed => finish(out, FixedEnd::FileFailed),
     }
 }
 
@@ -74,6 +78,8 @@ pub fn show<F: Files, O: Sink>(
     ensures file_only { IfOk result (λ status. (status ≡ FILE_FAILED) ⊎ (F.faults files.new ≡ F.faults files.old)) }
     ensures sink { SinkCause (O.faults out.old) (O.faults out.new) result }
     ensures sink_count { O.faults out.new ≡ counted_output (O.faults out.old) result }
+    ensures memory_kept { UnlessMemory result (O.memory_faults out.new ≡ O.memory_faults out.old) }
+    ensures file_memory { MemoryOnly result ((F.faults files.new ≡ F.faults files.old) ⊎ Rose (O.memory_faults out.old) (O.memory_faults out.new)) }
     ensures files { KeepsFiles (F.contents files.old) (F.contents files.new) }
     ensures failed_calls { NotesReadOnly name.now (F.failed_calls files.old) (F.failed_calls files.new) }
 {

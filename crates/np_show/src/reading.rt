@@ -3,7 +3,7 @@
 ghost use Rattle.std.specs.Prelude.{◌≡◌, ◌+◌, ◌<◌, ◌^◌, [], length, OnOk, OnErr, IfOk, Some, ◌⊎◌};
 ghost use Rattle.np_ports.specs.Causes.{Rose};
 ghost use Rattle.np_ports.specs.Files.{Contents};
-ghost use Rattle.np_end_stops.specs.Causes.{SinkCause, counted_output};
+ghost use Rattle.np_end_stops.specs.Causes.{SinkCause, UnlessMemory, counted_output};
 ghost use Rattle.np_show.specs.Listing.{file_listing};
 ghost use Rattle.np_show.specs.Show.{KeepsFiles, NotesReadOnly};
 ghost use Rattle.np_show.specs.Taking.{PrintsPiece, PrintsPieceFront, StandsAt, AddsFront, ComesTo, FailedOnly};
@@ -32,6 +32,7 @@ fn show_piece<O: Sink>(
     ensures total { OnOk result (feed.new.consumed + length feed.new.left ≡ feed.old.consumed + length feed.old.left + length piece.now) }
     ensures sink { SinkCause (O.faults out.old) (O.faults out.new) result }
     ensures sink_count { O.faults out.new ≡ counted_output (O.faults out.old) result }
+    ensures memory_kept { UnlessMemory result (O.memory_faults out.new ≡ O.memory_faults out.old) }
 {
     feed.push(piece)?;
     lines.clear();
@@ -51,8 +52,10 @@ pub fn show_messages<F: Files, O: Sink>(
     ensures front { OnErr result ((f : Contents) → F.contents files.old ≡ Some f → AddsFront (O.taken out.old) (O.taken out.new) (file_listing (f name.now)).lines) }
     ensures file { IfOk result (λ outcome. FailedOnly outcome (Rose (F.faults files.old) (F.faults files.new))) }
     ensures file_only { IfOk result (λ outcome. (outcome ≡ FileFailed) ⊎ (F.faults files.new ≡ F.faults files.old)) }
+    ensures file_cut { OnErr result (F.faults files.new ≡ F.faults files.old) }
     ensures sink { SinkCause (O.faults out.old) (O.faults out.new) result }
     ensures sink_count { O.faults out.new ≡ counted_output (O.faults out.old) result }
+    ensures memory_kept { UnlessMemory result (O.memory_faults out.new ≡ O.memory_faults out.old) }
     ensures files { KeepsFiles (F.contents files.old) (F.contents files.new) }
     ensures failed_calls { NotesReadOnly name.now (F.failed_calls files.old) (F.failed_calls files.new) }
 {

@@ -26,6 +26,7 @@ loop-next-preserved g c = record {
   ended = subst (λ (x : Option Ending). g.P.Peer.has_ended c.turn.new.peer ≡ ended_turn (g.P.Peer.has_ended c.loop-next.peer) (Ok x)) c.in_default.is c.in_ok-next.ensures.ended_exact ∙ c.loop-next.invariant.ended;
   start = c.in_ok-next.ensures.start_faults ∙ c.loop-next.invariant.start;
   sink = c.in_ok-next.ensures.sink_count ∙ c.loop-next.invariant.sink;
+  memory = c.in_ok-next.ensures.memory_kept ∙ c.loop-next.invariant.memory;
 }
 
 pub returns-in_err-next-clause-cut : goal.returns-in_err-next-clause-cut

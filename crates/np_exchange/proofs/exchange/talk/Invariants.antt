@@ -14,6 +14,7 @@ invariant-loop-next g l = record {
   ended : g.P.Peer.has_ended l.peer ≡ g.P.Peer.has_ended l.initial.peer;
   start : g.P.Peer.start_faults l.peer ≡ g.P.Peer.start_faults l.initial.peer;
   sink : g.O.Sink.faults l.out ≡ g.O.Sink.faults l.initial.out;
+  memory : g.O.Sink.memory_faults l.out ≡ g.O.Sink.memory_faults l.initial.out;
 }
 
 abbrev pub decreases-loop-next : goal.decreases-loop-next

@@ -56,6 +56,7 @@ returns-in_err-sent g c = record {
   start_faults = search rules;
   sink = search rules;
   sink_count = search rules;
+  memory_kept = search rules;
 }
 
 pub returns-in_err-ending : goal.returns-in_err-ending
@@ -77,6 +78,7 @@ returns-in_err-ending g c = record {
   start_faults = search rules;
   sink = search rules;
   sink_count = search rules;
+  memory_kept = search rules;
 }
 
 pub returns-then-sent-clause-gave : goal.returns-then-sent-clause-gave

@@ -23,6 +23,7 @@ loop-total-init g c = record {
   faults = refl;
   failed = λ x e. e;
   sink = refl;
+  memory = refl;
 }
 
 pub returns-in-Err-Failed-clause-comes : goal.returns-in-Err-Failed-clause-comes
@@ -68,6 +69,7 @@ loop-total-preserved g c = record {
   faults = c.in-Ok.ensures.count ∙ c.loop-total.invariant.faults;
   failed = λ x e. no-failure _ _ c.in-Ok.n c.args.name.now x (c.loop-total.invariant.failed x e) c.in-Ok.ensures.failed_calls;
   sink = c.in_ok-error.ensures.sink_count ∙ c.loop-total.invariant.sink;
+  memory = c.in_ok-error.ensures.memory_kept ∙ c.loop-total.invariant.memory;
 }
 
 pub returns-clause-comes : goal.returns-clause-comes

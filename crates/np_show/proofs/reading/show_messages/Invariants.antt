@@ -15,6 +15,7 @@ invariant-loop-total g l = record {
   faults : g.F.Files.faults l.files ≡ g.F.Files.faults l.initial.files;
   failed : (x : List (List ℕ × FileCall)) → g.F.Files.failed_calls l.initial.files ≡ Some x → g.F.Files.failed_calls l.files ≡ Some x;
   sink : g.O.Sink.faults l.out ≡ g.O.Sink.faults l.initial.out;
+  memory : g.O.Sink.memory_faults l.out ≡ g.O.Sink.memory_faults l.initial.out;
 }
 
 abbrev pub decreases-loop-total : goal.decreases-loop-total
