@@ -1,7 +1,7 @@
 //! Programs that are started as peers.
+use crate::environment::reads;
 use np_ports::{ChildPeer, Peer, PortError};
 use std::alloc::Global;
-use std::process::Abort;
 use std::test::Fail;
 
 fn words(alloc: Global, texts: &[&str]) -> Result<Vec<String>, Fail> {
@@ -11,13 +11,6 @@ fn words(alloc: Global, texts: &[&str]) -> Result<Vec<String>, Fail> {
         words.push(word)?;
     }
     Ok(words)
-}
-
-/// The next read of the peer gives this.
-fn reads<P: Peer>(rt: &impl Abort, peer: &mut P, want: Result<usize, PortError>) {
-    let mut buf = [0; 4];
-    let got = peer.read(&mut buf);
-    assert_eq!(rt; got, want);
 }
 
 #[test]

@@ -1,21 +1,8 @@
 //! Files that are read and written.
+use crate::environment::{file_fails, file_has};
 use np_ports::{FileSink, Files, HostFiles, PortError, Sink};
-use std::process::Abort;
 use std::test::Fail;
 use std::{env, fs, process};
-
-/// What is read of the file from this place on.
-fn reads<F: Files>(
-    rt: &impl Abort,
-    files: &mut F,
-    name: &str,
-    at: u64,
-    want: Result<&[u8], PortError>,
-) {
-    let mut buf = [0; 8];
-    let got = files.read(name, at, &mut buf);
-    assert_eq!(rt; got.map(|n| &buf[..n]), want, "{name}");
-}
 
 #[test]
 fn host_files_are_read(rt: HostRuntime) -> Result<(), Fail> {
@@ -24,13 +11,13 @@ fn host_files_are_read(rt: HostRuntime) -> Result<(), Fail> {
     let number = process::id(rt.process());
     let name = format!(in alloc; "{folder}/np_end_tests_{number}", folder = folder.display())?;
     let mut files = HostFiles::new(rt, alloc);
-    reads(&rt, &mut files, &name, 0, Err(PortError::Failed));
+    file_fails(&rt, &mut files, &name);
     assert_eq!(rt; files.put(&name, b"abcdefghij"), Ok(()));
-    reads(&rt, &mut files, &name, 0, Ok(b"abcdefgh"));
-    reads(&rt, &mut files, &name, 8, Ok(b"ij"));
-    reads(&rt, &mut files, &name, 10, Ok(b""));
+    file_has(&rt, &mut files, &name, 0, b"abcdefgh");
+    file_has(&rt, &mut files, &name, 8, b"ij");
+    file_has(&rt, &mut files, &name, 10, b"");
     assert_eq!(rt; files.put(&name, b"xyz"), Ok(()));
-    reads(&rt, &mut files, &name, 1, Ok(b"yz"));
+    file_has(&rt, &mut files, &name, 1, b"yz");
     fs::remove_file(&rt, &name)?;
     Ok(())
 }
@@ -48,10 +35,10 @@ fn a_file_is_made_at_its_first_write(rt: HostRuntime) -> Result<(), Fail> {
     let sink_name = String::from_str(alloc, &name)?;
     let mut sink = FileSink::new(rt, sink_name);
     let mut files = HostFiles::new(rt, alloc);
-    reads(&rt, &mut files, &name, 0, Ok(b"an old f"));
+    file_has(&rt, &mut files, &name, 0, b"an old f");
     assert_eq!(rt; sink.write(b"abc"), Ok(3));
     assert_eq!(rt; sink.write(b"de"), Ok(2));
-    reads(&rt, &mut files, &name, 0, Ok(b"abcde"));
+    file_has(&rt, &mut files, &name, 0, b"abcde");
     fs::remove_file(&rt, &name)?;
     Ok(())
 }

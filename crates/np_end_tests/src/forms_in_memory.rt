@@ -1,17 +1,11 @@
 //! The forms in memory of a peer, files and a sink.
+use crate::environment::{file_fails, file_has, reads};
 use np_ports::{
     Files, MemFiles, MemSink, Peer, PortError, ScriptedPeer, Sink, SureFiles, SurePeer, SureSink,
 };
 use std::alloc::Global;
 use std::process::Abort;
 use std::test::Fail;
-
-/// The next read of the peer gives this.
-fn reads<P: Peer>(rt: &impl Abort, peer: &mut P, want: Result<usize, PortError>) {
-    let mut buf = [0; 4];
-    let got = peer.read(&mut buf);
-    assert_eq!(rt; got, want);
-}
 
 #[test]
 fn a_peer_gives_pieces(rt: HostRuntime) -> Result<(), Fail> {
@@ -76,27 +70,15 @@ fn files(alloc: Global) -> Result<Vec<(String, Vec<u8>)>, Fail> {
     Ok(files)
 }
 
-/// What is read of the file from its second byte on.
-fn file_reads<F: Files>(
-    rt: &impl Abort,
-    files: &mut F,
-    name: &str,
-    want: Result<&[u8], PortError>,
-) {
-    let mut buf = [0; 8];
-    let got = files.read(name, 1, &mut buf);
-    assert_eq!(rt; got.map(|n| &buf[..n]), want, "{name}");
-}
-
 #[test]
 fn files_are_found_by_name(rt: HostRuntime) -> Result<(), Fail> {
     let alloc = rt.alloc();
     let entries = files(alloc)?;
     let mut files = SureFiles::new(alloc, entries);
-    file_reads(&rt, &mut files, "a", Ok(b"ew!"));
-    file_reads(&rt, &mut files, "c", Ok(b""));
+    file_has(&rt, &mut files, "a", 1, b"ew!");
+    file_has(&rt, &mut files, "c", 1, b"");
     assert_eq!(rt; files.put("c", b"put"), Ok(()));
-    file_reads(&rt, &mut files, "c", Ok(b"ut"));
+    file_has(&rt, &mut files, "c", 1, b"ut");
     Ok(())
 }
 
@@ -106,11 +88,11 @@ fn the_second_read_of_a_file_fails(rt: HostRuntime) -> Result<(), Fail> {
     let entries = files(alloc)?;
     let fail_at = vec![in alloc; 2u64; 1]?;
     let mut files = MemFiles::new(alloc, entries, fail_at);
-    file_reads(&rt, &mut files, "a", Ok(b"ew!"));
-    file_reads(&rt, &mut files, "a", Err(PortError::Failed));
-    file_reads(&rt, &mut files, "c", Err(PortError::Failed));
+    file_has(&rt, &mut files, "a", 1, b"ew!");
+    file_fails(&rt, &mut files, "a");
+    file_fails(&rt, &mut files, "c");
     assert_eq!(rt; files.put("c", b"put"), Ok(()));
-    file_reads(&rt, &mut files, "c", Ok(b"ut"));
+    file_has(&rt, &mut files, "c", 1, b"ut");
     Ok(())
 }
 

@@ -6,6 +6,8 @@ mod children;
 #[cfg(test)]
 mod end_lines;
 #[cfg(test)]
+mod environment;
+#[cfg(test)]
 mod files;
 #[cfg(test)]
 mod forms_in_memory;
@@ -19,3 +21,5 @@ mod plug_runs;
 mod refusals;
 #[cfg(test)]
 mod transfers;
+#[cfg(test)]
+mod wire_text;
