@@ -1,5 +1,5 @@
 //! The end lines of a run.
-use np_end_lines::{finish, finish_refused, finish_script, finish_unbuilt};
+use np_end_lines::{FixedEnd, finish, finish_refused, finish_script, finish_unbuilt};
 use np_model::{Refusal, Rule};
 use np_ports::SureSink;
 use np_script_grammar::{ScriptError, ScriptKind};
@@ -8,7 +8,7 @@ use np_script_grammar::{ScriptError, ScriptKind};
 fn a_status_has_an_end_line(rt: HostRuntime) {
     let alloc = rt.alloc();
     let mut out = SureSink::new(alloc);
-    assert_eq!(rt; finish(alloc, &mut out, 11), Ok(11));
+    assert_eq!(rt; finish(&mut out, FixedEnd::NotStarted), Ok(11));
     assert_eq!(rt; out.bytes(), b"end 11\n".as_slice());
 }
 
