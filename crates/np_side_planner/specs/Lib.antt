@@ -1,0 +1,3 @@
+pub mod CallResults
+pub mod Objects
+pub mod Registers
