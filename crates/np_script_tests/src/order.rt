@@ -1,5 +1,4 @@
 //! Where a script stands after its lines.
-use np_script_grammar::Place;
 use np_script_order::{Order, OrderError};
 use np_script_words::{form_at, read_fields};
 use np_values::Side;
@@ -26,16 +25,5 @@ fn a_class_of_that_name_is_there(rt: HostRuntime) -> Result<(), Fail> {
     accept(alloc, &mut order, b"endclass", b"")?;
     let again = accept(alloc, &mut order, b"class", b"  \"A\"  2");
     assert_eq!(rt; again, Err(OrderError::Twice));
-    Ok(())
-}
-
-#[test]
-fn a_member_is_open(rt: HostRuntime) -> Result<(), Fail> {
-    let alloc = rt.alloc();
-    let mut order = Order::new(alloc);
-    accept(alloc, &mut order, b"page", b" 0 27")?;
-    accept(alloc, &mut order, b"class", b" \"A\" 1")?;
-    accept(alloc, &mut order, b"default", b"")?;
-    assert_eq!(rt; order.place(), Place::MemberBody);
     Ok(())
 }

@@ -2,6 +2,7 @@
 use np_script::{
     ParseError, ScriptError, ScriptKind, parse_page, parse_plugin, print_page, print_plugin,
 };
+use np_values::TryCopy;
 use std::test::Fail;
 
 const PAGE: &str =
@@ -44,5 +45,16 @@ fn a_page_ends_too_early(rt: HostRuntime) -> Result<(), Fail> {
         kind: ScriptKind::End,
     };
     assert!(rt; refused.err() == Some(ParseError::Script(error)));
+    Ok(())
+}
+
+#[test]
+fn a_resource_is_copied(rt: HostRuntime) -> Result<(), Fail> {
+    let alloc = rt.alloc();
+    let script = parse_page(alloc, PAGE.as_bytes())?;
+    let copy = script.page().resources.try_copy(alloc)?;
+    let resource = copy.as_slice().first().ok_or("none")?;
+    assert_eq!(rt; resource.mime.as_str(), "t/p");
+    assert_eq!(rt; resource.content.as_slice(), b"abab".as_slice());
     Ok(())
 }
